@@ -42,27 +42,27 @@ forward_sound : (names : List (List ℕ)) (n m : ℕ) (s t p : List ℕ) (bs bt 
     ((s ≡ codes "True") × (bs ≡ true) ⊎ (s ≡ codes "False") × (bs ≡ false)) → ((t ≡ codes "True") × (bt ≡ true) ⊎ (t ≡ codes "False") × (bt ≡ false)) →
     IsPlace names p v → forward_said n m bs bt v ≡ Some a → Says names (forward_call n m s t p) a
 forward_sound names n m s t p true true v a low high is_s is_t is_p e = absurd cc
-forward_sound names n m s t p true false at.Work a low high is_s is_t is_p e = absurd cc
+forward_sound names n m s t p true false (at.At Work) a low high is_s is_t is_p e = absurd cc
 forward_sound names n m s t p true false at.Nowhere a low high is_s is_t is_p e = absurd cc
-forward_sound names n m s t p true false (at.Level k) a low high (inr s_is) is_t is_p e = absurd (cc (s_is.1))
-forward_sound names n m s t p true false (at.Level k) a low high (inl s_is) (inl t_is) is_p e = absurd (cc (t_is.1))
-forward_sound names n m s t p true false (at.Level k) a low high (inl s_is) (inr t_is) is_p e =
+forward_sound names n m s t p true false (at.At (Level k)) a low high (inr s_is) is_t is_p e = absurd (cc (s_is.1))
+forward_sound names n m s t p true false (at.At (Level k)) a low high (inl s_is) (inl t_is) is_p e = absurd (cc (t_is.1))
+forward_sound names n m s t p true false (at.At (Level k)) a low high (inl s_is) (inr t_is) is_p e =
     let is : Forward n m (Store k) ≡ a = cc e in
     subst (λ (x : Action). Says names (forward_call n m s t p) x) is (low, high, p, is_p, rw (s_is.0, t_is.0) refl)
-forward_sound names n m s t p false true (at.Level k) a low high is_s is_t is_p e = absurd cc
+forward_sound names n m s t p false true (at.At (Level k)) a low high is_s is_t is_p e = absurd cc
 forward_sound names n m s t p false true at.Nowhere a low high is_s is_t is_p e = absurd cc
-forward_sound names n m s t p false true at.Work a low high (inl s_is) is_t is_p e = absurd (cc (s_is.1))
-forward_sound names n m s t p false true at.Work a low high (inr s_is) (inr t_is) is_p e = absurd (cc (t_is.1))
-forward_sound names n m s t p false true at.Work a low high (inr s_is) (inl t_is) is_p e = elim (which (eqb m (n + 1))) [
+forward_sound names n m s t p false true (at.At Work) a low high (inl s_is) is_t is_p e = absurd (cc (s_is.1))
+forward_sound names n m s t p false true (at.At Work) a low high (inr s_is) (inr t_is) is_p e = absurd (cc (t_is.1))
+forward_sound names n m s t p false true (at.At Work) a low high (inr s_is) (inl t_is) is_p e = elim (which (eqb m (n + 1))) [
   | inl one ↦
       let is : Forward n m Tape ≡ a = cc (rw one at e) in
       subst (λ (x : Action). Says names (forward_call n m s t p) x) is (low, high, eqb-true _ _ one, rw (s_is.0, t_is.0, is_p) refl)
   | inr more ↦ absurd (cc (rw more at e))
 ]
-forward_sound names n m s t p false false (at.Level k) a low high is_s is_t is_p e = absurd cc
+forward_sound names n m s t p false false (at.At (Level k)) a low high is_s is_t is_p e = absurd cc
 forward_sound names n m s t p false false v a low high (inl s_is) is_t is_p e = absurd (cc (s_is.1))
 forward_sound names n m s t p false false v a low high (inr s_is) (inl t_is) is_p e = absurd (cc (t_is.1))
-forward_sound names n m s t p false false at.Work a low high (inr s_is) (inr t_is) is_p e =
+forward_sound names n m s t p false false (at.At Work) a low high (inr s_is) (inr t_is) is_p e =
     let is : Forward n m Nothing ≡ a = cc e in
     subst (λ (x : Action). Says names (forward_call n m s t p) x) is (low, high, inr (rw (s_is.0, t_is.0, is_p) refl))
 forward_sound names n m s t p false false at.Nowhere a low high (inr s_is) (inr t_is) is_p e =
@@ -313,19 +313,19 @@ pub says_read : (names : List (List ℕ)) (texts : List (List ℕ)) (a : Action)
 says_read names texts (Forward n m Nothing) are (low, high, inl is) =
     nothing_read names n m (codes "NONE") at.Nowhere low high are refl refl (inr (inr refl)) texts is
 says_read names texts (Forward n m Nothing) are (low, high, inr is) =
-    nothing_read names n m (codes "WORK") at.Work low high are refl refl (inr (inl refl)) texts is
+    nothing_read names n m (codes "WORK") (at.At Work) low high are refl refl (inr (inl refl)) texts is
 says_read names texts (Forward n m (Store k)) are (low, high, name, at_k, is) = record {
   kind_is = kind.Forward;
   others = _;
   parts = is;
-  reads = rw (decimal_is_number n low, decimal_is_number m high, place_found names name (at.Level k) are at_k) refl;
+  reads = rw (decimal_is_number n low, decimal_is_number m high, place_found names name (at.At (Level k)) are at_k) refl;
   fit = (refl, ((n, low, refl), (refl, ((m, high, refl), (refl, (inl refl, (refl, (inr refl, (refl, (inl (contains_at names k name at_k), (refl, tt)))))))))));
 }
 says_read names texts (Forward n m Tape) are (low, high, one, is) = record {
   kind_is = kind.Forward;
   others = _;
   parts = is;
-  reads = rw (decimal_is_number n low, decimal_is_number m high, place_found names (codes "WORK") at.Work are refl, eq-eqb m (n + 1) one) refl;
+  reads = rw (decimal_is_number n low, decimal_is_number m high, place_found names (codes "WORK") (at.At Work) are refl, eq-eqb m (n + 1) one) refl;
   fit = (refl, ((n, low, refl), (refl, ((m, high, refl), (refl, (inr refl, (refl, (inl refl, (refl, (inr (inl refl), (refl, tt)))))))))));
 }
 says_read names texts (Reverse n m) are (low, high, one, is) = record {

@@ -188,18 +188,6 @@ image_written names bytes first second third fourth fifth last rest n k d begun 
       parts = front_parts bytes (codes "(") first begun ∙ ap (λ (xs : List ℕ). codes "(" ++ xs) (a.text ∙ ap (λ (xs : List ℕ). decimal n ++ xs) behind_number);
     }
 
-pub copy_written : (names : List (List ℕ)) (bytes rest : List ℕ) (n k : ℕ) (d : Dest) → IsImageAt names bytes n k d rest → IsActionAt names (codes "Copy" ++ bytes) (action.Copy n k d) rest
-copy_written names bytes rest n k d is = record {
-  spelling = (is.low, is.level, is.goes);
-  parts = ap (λ (xs : List ℕ). codes "Copy" ++ xs) is.parts ∙ one_part (codes "Copy(") (decimal n) (copy_text names k d) rest;
-}
-
-pub move_written : (names : List (List ℕ)) (bytes rest : List ℕ) (n k : ℕ) (d : Dest) → IsImageAt names bytes n k d rest → IsActionAt names (codes "Move" ++ bytes) (action.Move n k d) rest
-move_written names bytes rest n k d is = record {
-  spelling = (is.low, is.level, is.goes);
-  parts = ap (λ (xs : List ℕ). codes "Move" ++ xs) is.parts ∙ one_part (codes "Move(") (decimal n) (copy_text names k d) rest;
-}
-
 -- ---- a line that is the canonical spelling of an action
 
 first_more : (b : ℕ) (bs rest : List ℕ) → eqb b 10 ≡ false → (first_line (bs ++ rest) ≡ bs) × (later_lines (bs ++ rest) ≡ later_lines rest) →

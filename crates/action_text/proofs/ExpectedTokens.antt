@@ -16,7 +16,7 @@ use Rattle.line_texts.specs.Numbers.{starts_with_digit}
 use Rattle.action_text.specs.Shapes.{Want, exactly, number, truth, level, target, place, TakesToken}
 use Rattle.action_text.specs.Faults.{rule_at}
 use Rattle.action_text.specs.CursorState.{Rest}
-use Rattle.action_text.specs.Parser.{number_of, truth_of, level_of, target_of, place_of, level_or, text_in, column_in, text_at, column_at, behind, take_if, number_rule, level_rule, next, number_next, truth_next, level_next, target_next, place_next, mark_next, number_of_rule}
+use Rattle.action_text.specs.Parser.{number_of, truth_of, level_of, target_of, place_of, found_or, text_in, column_in, text_at, column_at, behind, take_if, number_rule, level_rule, next, number_next, truth_next, level_next, target_next, place_next, mark_next, number_of_rule}
 use Rattle.line_texts.proofs.Steps.{which, both, chosen, ok_is, err_is, not_both}
 use Rattle.action_text.proofs.Decimal.{number_is, decimal_is_number, decimal_is_run}
 use Rattle.action_text.proofs.LevelWords.{same_bytes, bytes_same, level_is, level_found, level_is_name, name_is_run, no_level, contains_at, at_contained}
@@ -93,45 +93,32 @@ IsTarget names text Work = text ≡ codes "WORK"
 IsTarget names text (Level k) = slice_get names k ≡ Some text
 
 abbrev pub IsPlace : List (List ℕ) → List ℕ → Place → Type 0
-IsPlace names text (at.Level k) = slice_get names k ≡ Some text
-IsPlace names text at.Work = text ≡ codes "WORK"
+IsPlace names text (at.At d) = IsTarget names text d
 IsPlace names text at.Nowhere = text ≡ codes "NONE"
 
-or_work : {B : Type 0} (text : List ℕ) (v : B) (other : Option B) (x : B) → cond (bytes_eq text (codes "WORK")) (Some v) other ≡ Some x → (text ≡ codes "WORK") × (v ≡ x) ⊎ (other ≡ Some x)
-or_work text v other x e = elim (chosen (bytes_eq text (codes "WORK")) (Some v) other (Some x) e) [
-  | inl h ↦ inl (same_bytes text (codes "WORK") h.0, cc (h.1))
-  | inr h ↦ inr h.1
+or_word : {B : Type 0} (text word : List ℕ) (v : B) (x : B) → cond (bytes_eq text word) (Some v) None ≡ Some x → (text ≡ word) × (v ≡ x)
+or_word text word v x e = elim (chosen (bytes_eq text word) (Some v) None (Some x) e) [
+  | inl h ↦ (same_bytes text word h.0, cc (h.1))
+  | inr h ↦ absurd (cc (h.1))
 ]
 
-level_or_is : {B : Type 0} (names : List (List ℕ)) (text : List ℕ) (o : Option ℕ) (f : ℕ → B) (other : Option B) (x : B) → level_of names text ≡ o → level_or o f other ≡ Some x →
-    ((k : ℕ) × (slice_get names k ≡ Some text) × (f k ≡ x)) ⊎ (other ≡ Some x)
-level_or_is names text None f other x is e = inr e
-level_or_is names text (Some k) f other x is e = inl (k, level_is names text k is, cc e)
+found_or_is : {A B : Type 0} (o : Option A) (f : A → B) (other : Option B) (x : B) → found_or o f other ≡ Some x → ((a : A) × (o ≡ Some a) × (f a ≡ x)) ⊎ (other ≡ Some x)
+found_or_is None f other x e = inr e
+found_or_is (Some a) f other x e = inl (a, refl, cc e)
 
 pub target_is : (names : List (List ℕ)) (text : List ℕ) (d : Dest) → target_of names text ≡ Some d → IsTarget names text d
 unfolding target_of
-target_is names text d e = elim (level_or_is names text (level_of names text) Level (cond (bytes_eq text (codes "WORK")) (Some Work) None) d refl e) [
-  | inl h ↦ subst (λ (x : Dest). IsTarget names text x) h.2 h.1
-  | inr other ↦ elim (or_work text Work None d other) [
-    | inl h ↦ subst (λ (x : Dest). IsTarget names text x) h.1 h.0
-    | inr none ↦ absurd cc
-  ]
+target_is names text d e = elim (found_or_is (level_of names text) Level (cond (bytes_eq text (codes "WORK")) (Some Work) None) d e) [
+  | inl h ↦ subst (λ (x : Dest). IsTarget names text x) h.2 (level_is names text h.0 h.1)
+  | inr other ↦ let work = or_word text (codes "WORK") Work d other in subst (λ (x : Dest). IsTarget names text x) work.1 work.0
 ]
 
 pub place_is : (names : List (List ℕ)) (text : List ℕ) (p : Place) → place_of names text ≡ Some p → IsPlace names text p
 unfolding place_of
-place_is names text p e =
-    let nones : Option Place = cond (bytes_eq text (codes "NONE")) (Some at.Nowhere) None in
-    elim (level_or_is names text (level_of names text) at.Level (cond (bytes_eq text (codes "WORK")) (Some at.Work) nones) p refl e) [
-      | inl h ↦ subst (λ (x : Place). IsPlace names text x) h.2 h.1
-      | inr other ↦ elim (or_work text at.Work nones p other) [
-        | inl h ↦ subst (λ (x : Place). IsPlace names text x) h.1 h.0
-        | inr third ↦ elim (chosen (bytes_eq text (codes "NONE")) (Some at.Nowhere) None (Some p) third) [
-          | inl h ↦ let same : at.Nowhere ≡ p = cc (h.1) in subst (λ (x : Place). IsPlace names text x) same (same_bytes text (codes "NONE") h.0)
-          | inr h ↦ absurd (cc (h.1))
-        ]
-      ]
-    ]
+place_is names text p e = elim (found_or_is (target_of names text) at.At (cond (bytes_eq text (codes "NONE")) (Some at.Nowhere) None) p e) [
+  | inl h ↦ subst (λ (x : Place). IsPlace names text x) h.2 (target_is names text h.0 h.1)
+  | inr other ↦ let none = or_word text (codes "NONE") at.Nowhere p other in subst (λ (x : Place). IsPlace names text x) none.1 none.0
+]
 
 pub target_found : (names : List (List ℕ)) (text : List ℕ) (d : Dest) → AreNames names → IsTarget names text d → target_of names text ≡ Some d
 unfolding target_of
@@ -139,9 +126,8 @@ target_found names text Work are is = rw is (rw (no_level names (codes "WORK") a
 target_found names text (Level k) are is = rw (level_found names k text are is) refl
 
 pub place_found : (names : List (List ℕ)) (text : List ℕ) (p : Place) → AreNames names → IsPlace names text p → place_of names text ≡ Some p
-unfolding place_of
-place_found names text (at.Level k) are is = rw (level_found names k text are is) refl
-place_found names text at.Work are is = rw is (rw (no_level names (codes "WORK") are refl) refl)
+unfolding place_of target_of
+place_found names text (at.At d) are is = rw (target_found names text d are is) refl
 place_found names text at.Nowhere are is = rw is (rw (no_level names (codes "NONE") are refl) refl)
 
 -- ---- a test holds exactly of what fits
@@ -167,8 +153,8 @@ fits_passes names target text are (inl fit) =
 fits_passes names target text are (inr is) = both_hold _ _ (ap starts_run is) (some_holds _ Work (target_found names text Work are is))
 fits_passes names place text are (inl fit) =
     let c = at_contained names text fit in
-    both_hold _ _ (name_is_run text (level_is_name names c.0 text are c.1)).some (some_holds _ (at.Level c.0) (place_found names text (at.Level c.0) are c.1))
-fits_passes names place text are (inr (inl is)) = both_hold _ _ (ap starts_run is) (some_holds _ at.Work (place_found names text at.Work are is))
+    both_hold _ _ (name_is_run text (level_is_name names c.0 text are c.1)).some (some_holds _ (at.At (Level c.0)) (place_found names text (at.At (Level c.0)) are c.1))
+fits_passes names place text are (inr (inl is)) = both_hold _ _ (ap starts_run is) (some_holds _ (at.At Work) (place_found names text (at.At Work) are is))
 fits_passes names place text are (inr (inr is)) = both_hold _ _ (ap starts_run is) (some_holds _ at.Nowhere (place_found names text at.Nowhere are is))
 
 target_fits : (names : List (List ℕ)) (text : List ℕ) (d : Dest) → IsTarget names text d → TakesToken names target text
@@ -176,8 +162,8 @@ target_fits names text Work is = inr is
 target_fits names text (Level k) is = inl (contains_at names k text is)
 
 place_fits : (names : List (List ℕ)) (text : List ℕ) (p : Place) → IsPlace names text p → TakesToken names place text
-place_fits names text (at.Level k) is = inl (contains_at names k text is)
-place_fits names text at.Work is = inr (inl is)
+place_fits names text (at.At (Level k)) is = inl (contains_at names k text is)
+place_fits names text (at.At Work) is = inr (inl is)
 place_fits names text at.Nowhere is = inr (inr is)
 
 pub passes_fits : (names : List (List ℕ)) (w : Want) (text : List ℕ) → test_of names w text ≡ true → TakesToken names w text

@@ -1,7 +1,7 @@
 -- No public clause cites this file. What the reader computes, as functions on lists. Each takes something from the
 -- front of a line's tokens, and gives it and the rest, or a fault. The laws tie it to the definitions that clauses
 -- cite.
-use Rattle.std.specs.Prelude.{◌≡◌, ◌+◌, ◌==◌, ◌++◌, ◌&&◌, ℕ, Bool, true, false, List, [], ◌∷◌, length, Option, Some, None, Result, Ok, Err, is_some, unwrap_or, slice_index_or, position, codes, if◌then◌else◌}
+use Rattle.std.specs.Prelude.{◌≡◌, ◌≢◌, ◌⊎◌, ◌+◌, ◌==◌, ◌++◌, ◌&&◌, ℕ, Bool, true, false, List, [], ◌∷◌, length, Option, Some, None, Result, Ok, Err, is_some, unwrap_or, slice_index_or, position, codes, if◌then◌else◌}
 use Rattle.std.specs.Option.{option_to_list}
 use Rattle.std.specs.Str.{bytes_eq}
 use Rattle.plan_types.specs.declared.limits.TheConstants.{MOST_ACTIONS, MOST_STEPS}
@@ -19,8 +19,8 @@ use Rattle.action_text.specs.declared.words.Place.{Place}
 use Rattle.action_text.specs.declared.words.Place.TheVariants as at
 use Rattle.action_text.specs.declared.words.Kind.{Kind}
 use Rattle.action_text.specs.declared.words.Kind.TheVariants as kind
-use Rattle.action_text.specs.Tokens.{starts_run, tokens}
-use Rattle.line_texts.specs.Tokens.{Token}
+use Rattle.action_text.specs.Tokens.{is_run_byte, starts_run, tokens}
+use Rattle.line_texts.specs.Tokens.{Token, is_blank}
 use Rattle.line_texts.specs.Numbers.{starts_with_digit}
 use Rattle.action_text.specs.Shapes.{Want, exactly, number, truth, level, target, place, opening, comma, closing}
 use Rattle.line_texts.specs.Lines.{lines}
@@ -47,17 +47,16 @@ truth_of text = if bytes_eq text (codes "True") then Some true else (if bytes_eq
 unfoldable pub level_of : List (List ℕ) → List ℕ → Option ℕ
 level_of names text = position (bytes_eq text) names
 
-abbrev pub level_or : {A B : Type 0} → Option A → (A → B) → Option B → Option B
-level_or None f other = other
-level_or (Some k) f other = Some (f k)
+-- what was found, in a wider type, or something else
+abbrev pub found_or : {A B : Type 0} → Option A → (A → B) → Option B → Option B
+found_or None f other = other
+found_or (Some x) f other = Some (f x)
 
 unfoldable pub target_of : List (List ℕ) → List ℕ → Option Dest
-target_of names text = level_or (level_of names text) Level (if bytes_eq text (codes "WORK") then Some Work else None)
+target_of names text = found_or (level_of names text) Level (if bytes_eq text (codes "WORK") then Some Work else None)
 
 unfoldable pub place_of : List (List ℕ) → List ℕ → Option Place
-place_of names text =
-    level_or (level_of names text) at.Level
-    (if bytes_eq text (codes "WORK") then Some at.Work else (if bytes_eq text (codes "NONE") then Some at.Nowhere else None))
+place_of names text = found_or (target_of names text) at.At (if bytes_eq text (codes "NONE") then Some at.Nowhere else None)
 
 unfoldable pub kind_of : List ℕ → Option Kind
 kind_of text =
@@ -113,11 +112,26 @@ take_if test rule rest = if test (text_at rest) then Ok (text_at rest, behind re
 abbrev pub number_rule : List ℕ → Rule
 number_rule text = if starts_with_digit text then rule.Number else rule.NotAction
 
+-- the rule that a text breaks, which is this one if it is a word
+abbrev pub word_rule : Rule → List ℕ → Rule
+word_rule broken text = if starts_run text then broken else rule.NotAction
+
 abbrev pub level_rule : List ℕ → Rule
-level_rule text = if starts_run text then rule.Level else rule.NotAction
+level_rule = word_rule rule.Level
 
 unfoldable pub mark_next : List ℕ → Rest → Result (List ℕ × Rest) (LineFault Rule)
 mark_next wanted = take_if (λ text. bytes_eq text wanted) (λ _. rule.NotAction)
+
+-- no byte of a blank, of a run or of a line's end
+abbrev pub IsMark : ℕ → Type 0
+IsMark byte = (is_blank byte ≡ false) × (is_run_byte byte ≡ false) × (byte ≢ 10)
+
+-- a value and the mark after it are consumed, or one of them has a fault
+abbrev pub ReadsBefore : {A : Type 0} → ℕ → Result A (LineFault Rule) → (List ℕ → Option A) → (Rest → Result (List ℕ × Rest) (LineFault Rule)) → Rest → Rest → Type 0
+ReadsBefore mark (Ok x) value next old new = (next old ≡ Ok (text_at old, behind old)) × (value (text_at old) ≡ Some x)
+    × (mark_next (mark ∷ []) (behind old) ≡ Ok (text_at (behind old), new)) × (new.later ≡ old.later)
+ReadsBefore mark (Err e) value next old new =
+    (next old ≡ Err e) ⊎ (next old ≡ Ok (text_at old, behind old)) × (mark_next (mark ∷ []) (behind old) ≡ Err e)
 
 unfoldable pub word_next : Rest → Result (List ℕ × Rest) (LineFault Rule)
 word_next = take_if starts_run (λ _. rule.NotAction)
@@ -172,13 +186,13 @@ wants_of kind.EndReverse = opening ∷ closing ∷ []
 -- the action that arguments mean, if their profile is one
 abbrev pub forward_said : ℕ → ℕ → Bool → Bool → Place → Option Action
 forward_said from to false false at.Nowhere = Some (Forward from to Nothing)
-forward_said from to false false at.Work = Some (Forward from to Nothing)
-forward_said from to false false (at.Level k) = None
-forward_said from to true false (at.Level k) = Some (Forward from to (Store k))
-forward_said from to true false at.Work = None
+forward_said from to false false (at.At Work) = Some (Forward from to Nothing)
+forward_said from to false false (at.At (Level k)) = None
+forward_said from to true false (at.At (Level k)) = Some (Forward from to (Store k))
+forward_said from to true false (at.At Work) = None
 forward_said from to true false at.Nowhere = None
-forward_said from to false true at.Work = if to == from + 1 then Some (Forward from to Tape) else None
-forward_said from to false true (at.Level k) = None
+forward_said from to false true (at.At Work) = if to == from + 1 then Some (Forward from to Tape) else None
+forward_said from to false true (at.At (Level k)) = None
 forward_said from to false true at.Nowhere = None
 forward_said from to true true p = None
 
@@ -207,6 +221,14 @@ said names kind.EndReverse xs = Some EndReverse
 -- the arguments of an action, and what they say
 unfoldable pub arguments_of : List (List ℕ) → Kind → Rest → Result (Option Action) (LineFault Rule)
 arguments_of names k rest = all_of names (wants_of k) rest >>= λ xs. Ok (said names k xs)
+
+-- the arguments of a Copy or a Move, and the action that they mean
+unfoldable pub image_of : List (List ℕ) → Bool → Rest → Result (Option Action) (LineFault Rule)
+image_of names moves rest = all_of names (wants_of kind.Copy) rest >>= λ xs. Ok (said names (if moves then kind.Move else kind.Copy) xs)
+
+-- the brackets of an action without arguments
+unfoldable pub brackets_of : Action → Rest → Result (Option Action) (LineFault Rule)
+brackets_of action rest = all_of [] (wants_of kind.EndForward) rest >>= λ xs. Ok (Some action)
 
 -- arguments that don't fit together are a fault at the name
 abbrev pub profiled : ℕ → Option Action → Result (Option Action) (LineFault Rule)

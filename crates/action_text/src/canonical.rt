@@ -27,9 +27,11 @@ pub(crate) fn action_at<'a>(bytes: &'a [u8], book: &Book) -> Option<(Action, &'a
     } else if let Some(rest) = behind_eight(bytes, b"Reverse(") {
         reverse_at(rest)
     } else if let Some(rest) = behind_four(bytes, b"Copy") {
-        copy_at(rest, book)
+        let (Image { n, from, dest }, rest) = image_at(rest, book)?;
+        Some((Action::Copy { n, from, dest }, rest))
     } else if let Some(rest) = behind_four(bytes, b"Move") {
-        move_at(rest, book)
+        let (Image { n, from, dest }, rest) = image_at(rest, book)?;
+        Some((Action::Move { n, from, dest }, rest))
     } else {
         None
     }
@@ -97,26 +99,6 @@ fn reverse_at(bytes: &[u8]) -> Option<(Action, &[u8])>
         return None;
     }
     Some((Action::Reverse { from, to }, rest))
-}
-
-// The Copy whose arguments and brackets are at the front.
-#[inline(always)]
-fn copy_at<'a>(bytes: &'a [u8], book: &Book) -> Option<(Action, &'a [u8])>
-    ensures { IfSome result (λ x. IsActionAt (names_of book.now) (codes "Copy" ++ bytes.now) x.0 x.1.now) }
-{
-    let (image, rest) = image_at(bytes, book)?;
-    let Image { n, from, dest } = image;
-    Some((Action::Copy { n, from, dest }, rest))
-}
-
-// The Move whose arguments and brackets are at the front.
-#[inline(always)]
-fn move_at<'a>(bytes: &'a [u8], book: &Book) -> Option<(Action, &'a [u8])>
-    ensures { IfSome result (λ x. IsActionAt (names_of book.now) (codes "Move" ++ bytes.now) x.0 x.1.now) }
-{
-    let (image, rest) = image_at(bytes, book)?;
-    let Image { n, from, dest } = image;
-    Some((Action::Move { n, from, dest }, rest))
 }
 
 // The arguments of a Copy or a Move, between their brackets.

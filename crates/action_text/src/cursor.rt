@@ -1,14 +1,14 @@
 // A cursor over the bytes of a text. It goes from token to token, and from line to line.
-ghost use Rattle.std.specs.Prelude.{◌≡◌, ◌≢◌, ◌<◌, ◌≤◌, ◌+◌, ◌-◌, ◌^◌, ◌∷◌, [], false, true, length, IsTrue, MatchResult, IfOk, IfErr, OnOk, Ok, Err, Some, IfSome, MatchOption};
+ghost use Rattle.std.specs.Prelude.{◌≡◌, ◌<◌, ◌≤◌, ◌+◌, ◌-◌, ◌^◌, ◌∷◌, [], false, true, length, IsTrue, MatchResult, IfOk, IfErr, OnOk, Ok, Err, Some, IfSome, MatchOption};
 ghost use Rattle.plan_types.specs.declared.limits.TheConstants.{MOST_STEPS};
-ghost use Rattle.line_texts.specs.Prelude.{is_blank, lines, GivesSome};
+ghost use Rattle.line_texts.specs.Prelude.{lines, GivesSome};
 ghost use Rattle.level_book.specs.Prelude.{names_of};
-ghost use Rattle.action_text.specs.Tokens.{is_run_byte, starts_run};
+ghost use Rattle.action_text.specs.Tokens.{starts_run};
 ghost use Rattle.action_text.specs.Bytes.{behind_line, ends_line, begins_nothing, run_length, IsWord, behind_word, behind_front};
-ghost use Rattle.action_text.specs.Parser.{text_at, column_at, says_nothing, not_action, number_of, mark_next, end_next, has_line, next_line, Takes, TakesWord, line_of};
+ghost use Rattle.action_text.specs.Parser.{text_at, column_at, says_nothing, not_action, number_of, mark_next, end_next, has_line, next_line, IsMark, Takes, TakesWord, line_of};
 
 use crate::canonical::action_at;
-use crate::fault::Rule;
+use crate::fault::{Parsed, Rule};
 use crate::number::number_at;
 use level_book::Book;
 use line_texts::{LineFault, RunBytes, after_blanks, past};
@@ -82,8 +82,8 @@ impl<'a> Cursor<'a> {
 
     // Reads the next token, which must be this byte.
     #[inline(always)]
-    pub(crate) fn mark(&mut self, byte: u8) -> Result<(), LineFault<Rule>>
-        requires { (is_blank byte ≡ false) × (is_run_byte byte ≡ false) × (byte ≢ 10) }
+    pub(crate) fn mark(&mut self, byte: u8) -> Parsed<()>
+        requires { IsMark byte }
         ensures value { MatchResult result
             (λ _. mark_next (byte ∷ []) self.old ≡ Ok (text_at self.old, self.new))
             (λ e. mark_next (byte ∷ []) self.old ≡ Err e) }
@@ -104,7 +104,7 @@ impl<'a> Cursor<'a> {
 
     // The next token, which must be a word.
     #[inline(always)]
-    pub(crate) fn word(&self) -> Result<Word<'a>, LineFault<Rule>>
+    pub(crate) fn word(&self) -> Parsed<Word<'a>>
         ensures word { IfOk result (λ word. (starts_run (text_at self.now) ≡ true) × (word.text.now ≡ text_at self.now)
             × (word.column ≡ column_at self.now)) }
         ensures fault { IfErr result (λ e. (starts_run (text_at self.now) ≡ false)
@@ -162,7 +162,7 @@ impl<'a> Cursor<'a> {
 
     // Checks that nothing is left of the line.
     #[inline(always)]
-    pub(crate) fn end(&mut self) -> Result<(), LineFault<Rule>>
+    pub(crate) fn end(&mut self) -> Parsed<()>
         ensures value { MatchResult result
             (λ _. end_next self.old ≡ Ok [])
             (λ e. end_next self.old ≡ Err e) }

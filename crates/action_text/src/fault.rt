@@ -1,6 +1,6 @@
 // The rules of a line of a schedule.
 
-use line_texts::Rules;
+use line_texts::{LineFault, Rules};
 
 // By their numbers.
 #[derive(Clone, Copy)]
@@ -21,3 +21,6 @@ impl Rules for Rule {
         self as u8
     }
 }
+
+// What was read from a line, or the line's first fault.
+pub(crate) type Parsed<T> = Result<T, LineFault<Rule>>;

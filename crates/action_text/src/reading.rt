@@ -1,6 +1,5 @@
 // Texts that are read as lists of actions.
-ghost use Rattle.std.specs.Prelude.{◌≡◌, ◌≢◌, ◌⊎◌, ◌<◌, ◌^◌, ◌++◌, List, length, MatchResult, IfOk, IfErr, OnOk};
-ghost use Rattle.std.specs.Option.{option_to_list};
+ghost use Rattle.std.specs.Prelude.{◌≡◌, ◌≢◌, ◌⊎◌, ◌<◌, ◌^◌, List, length, MatchResult, IfOk, IfErr};
 ghost use Rattle.plan_types.specs.declared.action.Action.{Action};
 ghost use Rattle.line_texts.specs.declared.fault.Fault.{Fault};
 ghost use Rattle.line_texts.specs.Prelude.{GivesUnlessMemory};
@@ -12,7 +11,7 @@ ghost use Rattle.action_text.specs.Parser.{reading};
 use crate::cursor::Cursor;
 use crate::line::line;
 use level_book::Book;
-use line_texts::Fault;
+use line_texts::{Fault, push_found};
 use plan_types::{Action, MOST_ACTIONS};
 use std::alloc::Global;
 
@@ -52,21 +51,10 @@ fn read_lines(alloc: Global, bytes: &[u8], book: &Book) -> Result<Vec<Action>, F
             Ok(found) => found,
             Err(fault) => return Err(fault.at(number)),
         };
-        add(&mut list, found)?;
+        push_found(&mut list, found)?;
         if !cursor.next_line() {
             return Ok(list);
         }
         number += 1;
     }
-}
-
-// Adds an action to a list, if there is one.
-fn add(list: &mut Vec<Action>, found: Option<Action>) -> Result<(), Fault>
-    ensures added { OnOk result (list.new.items ≡ list.old.items ++ option_to_list found) }
-    ensures memory { IfErr result (λ e. e ≡ Fault.Memory) }
-{
-    if let Some(action) = found {
-        list.push(action)?;
-    }
-    Ok(())
 }

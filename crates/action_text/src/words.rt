@@ -17,11 +17,10 @@ pub(crate) enum Kind {
     EndReverse,
 }
 
-// What a Forward keeps, and where.
+// The last argument of a Forward: where it keeps, or nowhere.
 #[derive(Clone, Copy)]
 pub(crate) enum Place {
-    Level(u8),
-    Work,
+    At(Dest),
     Nowhere,
 }
 
@@ -82,12 +81,9 @@ pub(crate) fn take_level(cursor: &mut Cursor, book: &Book) -> Option<u8>
 pub(crate) fn take_target(cursor: &mut Cursor, book: &Book) -> Option<Dest>
     ensures { Takes result (target_of (names_of book.now) (text_at cursor.old)) cursor.old cursor.new }
 {
-    if let Some(k) = take_level(cursor, book) {
-        Some(Dest::Level(k))
-    } else if cursor.take(b"WORK") {
-        Some(Dest::Work)
-    } else {
-        None
+    match take_level(cursor, book) {
+        Some(k) => Some(Dest::Level(k)),
+        None => cursor.take(b"WORK").then_some(Dest::Work),
     }
 }
 
@@ -97,13 +93,8 @@ pub(crate) fn take_target(cursor: &mut Cursor, book: &Book) -> Option<Dest>
 pub(crate) fn take_place(cursor: &mut Cursor, book: &Book) -> Option<Place>
     ensures { Takes result (place_of (names_of book.now) (text_at cursor.old)) cursor.old cursor.new }
 {
-    if let Some(k) = take_level(cursor, book) {
-        Some(Place::Level(k))
-    } else if cursor.take(b"WORK") {
-        Some(Place::Work)
-    } else if cursor.take(b"NONE") {
-        Some(Place::Nowhere)
-    } else {
-        None
+    match take_target(cursor, book) {
+        Some(dest) => Some(Place::At(dest)),
+        None => cursor.take(b"NONE").then_some(Place::Nowhere),
     }
 }

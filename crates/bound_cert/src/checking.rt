@@ -8,14 +8,15 @@ ghost use Rattle.cert_text.specs.declared.certificate.Certificate.{Certificate};
 ghost use Rattle.bound_cert.specs.declared.verdict.Class.{Class};
 ghost use Rattle.bound_cert.specs.declared.verdict.Reason.{Reason};
 ghost use Rattle.bound_cert.specs.Acceptance.{class_of, IsAccepted, IsFirstReason};
+ghost use Rattle.bound_cert.specs.ValidLists.{IsValid};
 ghost use Rattle.bound_cert.specs.Verdicts.{IsVerdict, FindsNumber, IsComparison};
 
 use crate::bound::bound;
+use crate::listed::Listed;
 use crate::places::weigh_places;
 use crate::tables::{weigh_disk, weigh_nested};
 use crate::verdict::{CertVerdict, Class, Reason};
 use cert_text::Certificate;
-use cost_fold::tally;
 use level_book::Book;
 use plan_types::Action;
 use schedule_rules::{Verdict, check};
@@ -50,7 +51,7 @@ pub fn check_certificate(
     let _levels = book.levels();
     book.costs_rise();
     match check(alloc, list, steps, book)? {
-        Verdict::Valid => weigh(alloc, list, steps, book, certificate),
+        Verdict::Valid => weigh(alloc, &Listed { list, steps, book }, certificate),
         Verdict::Broken { .. } => Ok(CertVerdict::Not(Reason::Invalid)),
     }
 }
@@ -58,37 +59,21 @@ pub fn check_certificate(
 // The verdict on a valid list.
 fn weigh(
     alloc: Global,
-    list: &[Action],
-    steps: u32,
-    book: &Book,
+    listed: &Listed,
     certificate: &Certificate,
 ) -> Result<CertVerdict, AllocError>
-    requires short { steps ≤ MOST_STEPS }
-    requires few { length list.now ≤ MOST_ACTIONS }
-    requires valid { Valid steps (slots_of book.now) list.now }
-    ensures { IfOk result (IsVerdict list.now steps book.now certificate.now) }
+    requires { IsValid listed.now }
+    ensures { IfOk result (IsVerdict listed.now.list.now listed.now.steps listed.now.book.now certificate.now) }
 {
     match certificate {
         Certificate::Revolve { k, value } => {
-            let number = bound(steps, book.total_room(steps), *k);
-            Ok(compare(forward_steps(list, steps, book), *value, number))
+            let number = bound(listed.steps, listed.book.total_room(listed.steps), *k);
+            Ok(compare(listed.forward_steps(), *value, number))
         }
-        Certificate::Places { threshold } => weigh_places(alloc, list, steps, book, *threshold),
-        Certificate::Nested { tables } => weigh_nested(alloc, list, steps, book, tables),
-        Certificate::Disk { tables } => weigh_disk(alloc, list, steps, book, tables),
+        Certificate::Places { threshold } => weigh_places(alloc, listed, *threshold),
+        Certificate::Nested { tables } => weigh_nested(alloc, listed, tables),
+        Certificate::Disk { tables } => weigh_disk(alloc, listed, tables),
     }
-}
-
-// The forward steps of a valid list, taped ones included.
-fn forward_steps(list: &[Action], steps: u32, book: &Book) -> u64
-    requires short { steps ≤ MOST_STEPS }
-    requires few { length list.now ≤ MOST_ACTIONS }
-    requires valid { Valid steps (slots_of book.now) list.now }
-    ensures { result ≡ forward list.now }
-{
-    // A valid list names only the book's levels, of which there are at most four.
-    let _levels = book.levels();
-    tally(list).forward
 }
 
 // The verdict on a list with so many forward steps, by its certificate's value and k's bound. The bound is None where

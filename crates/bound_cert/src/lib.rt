@@ -9,6 +9,7 @@ mod bound;
 mod certifying;
 mod checking;
 pub mod laws;
+mod listed;
 mod places;
 mod tables;
 mod verdict;

@@ -1,40 +1,37 @@
 // Whether a threshold fits the places of a list.
 ghost use Rattle.std.specs.Prelude.{◌≡◌, ℕ, ◌<◌, ◌≤◌, ◌^◌, List, length, slice_index, IfOk};
 ghost use Rattle.plan_types.specs.declared.action.Action.{Action};
-ghost use Rattle.plan_types.specs.declared.limits.TheConstants.{MOST_ACTIONS, MOST_STEPS};
 ghost use Rattle.level_book.specs.declared.book.Level.{Level};
-ghost use Rattle.level_book.specs.Prelude.{BookCosts, slots_of, room, Valid};
+ghost use Rattle.level_book.specs.Prelude.{BookCosts, room};
 ghost use Rattle.revolve_gen.specs.Prelude.{places_on};
 ghost use Rattle.multistage_gen.specs.Prelude.{AreSavings};
 ghost use Rattle.cert_text.specs.declared.certificate.Certificate.{Certificate};
 ghost use Rattle.bound_cert.specs.Thresholds.{AreOn, IsGreatestSlow};
+ghost use Rattle.bound_cert.specs.ValidLists.{IsValid};
 ghost use Rattle.bound_cert.specs.Verdicts.{IsVerdict, FindsOn, FindsMisfit};
 
+use crate::listed::Listed;
 use crate::verdict::{CertVerdict, Class, Reason};
 use class_rules::place_levels;
-use level_book::Book;
 use multistage_gen::place_savings;
-use plan_types::Action;
 use std::alloc::{AllocError, Global};
 use table_clauses::Entry;
 
 // The verdict on a valid list and a threshold.
 pub(crate) fn weigh_places(
     alloc: Global,
-    list: &[Action],
-    steps: u32,
-    book: &Book,
+    listed: &Listed,
     threshold: u64,
 ) -> Result<CertVerdict, AllocError>
-    requires short { steps ≤ MOST_STEPS }
-    requires few { length list.now ≤ MOST_ACTIONS }
-    requires valid { Valid steps (slots_of book.now) list.now }
-    ensures { IfOk result (IsVerdict list.now steps book.now (Certificate.Places threshold)) }
+    requires { IsValid listed.now }
+    ensures { IfOk result (IsVerdict listed.now.list.now listed.now.steps listed.now.book.now (Certificate.Places threshold)) }
 {
-    let Some(levels) = place_levels(alloc, list, steps, book)? else {
+    let steps = listed.steps;
+    let book = listed.book;
+    let Some(levels) = place_levels(alloc, listed.list, steps, book)? else {
         return Ok(CertVerdict::Not(Reason::OutsideClass));
     };
-    let savings = place_savings(alloc, list, book)?;
+    let savings = place_savings(alloc, listed.list, book)?;
     match first_misfit(&levels, &savings, book.room(0, steps), threshold) {
         Some(entry) => Ok(CertVerdict::Not(Reason::Inequality(entry))),
         None => Ok(CertVerdict::Least(Class::Multistage)),

@@ -10,6 +10,6 @@ mod outcome;
 
 pub use fault::CaseFault;
 pub use inputs::{Inputs, program_of};
-pub use lines::{Cases, Difference, exit_code, run_files};
+pub use lines::{Cases, Difference, arguments, exit_code, run_files};
 pub use members::{number_of, text_of, timeline_of};
 pub use outcome::all_came;

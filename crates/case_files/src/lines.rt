@@ -5,7 +5,7 @@ use crate::inputs::{Inputs, read_inputs};
 use serde_json::Value;
 use std::alloc::Global;
 use std::process::ExitCode;
-use std::{fs, io};
+use std::{env, fs, io};
 
 /// What came otherwise than a case says, if anything did.
 pub type Difference = Result<Option<String>, CaseFault>;
@@ -13,6 +13,11 @@ pub type Difference = Result<Option<String>, CaseFault>;
 /// What runs a case over inputs.
 pub trait Cases {
     fn difference(&self, alloc: Global, inputs: &Inputs, case: &Value) -> Difference;
+}
+
+/// The arguments after the program's own name.
+pub fn arguments(rt: &HostRuntime) -> io::Result<Vec<String>> {
+    Ok(env::args(rt)?.skip(1).collect(rt.alloc())?)
 }
 
 /// Whether all cases passed. The first word names a file of inputs, each other one a file of cases. It prints how many

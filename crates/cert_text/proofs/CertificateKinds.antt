@@ -229,8 +229,8 @@ says_fit steps book (Disk t) ls has e =
 
 -- tables that have a text aren't too large
 pub says_small : (steps : ℕ) (book : BookCosts) (certificate : Certificate) → HasText steps book certificate → IsTooLarge (kind_of certificate) steps book → ⊥
-says_small steps book (Revolve k v) has large = large
-says_small steps book (Places n) has large = large
+says_small steps book (Revolve k v) has large = large tt
+says_small steps book (Places n) has large = large tt
 says_small steps book (Nested t) has large = large has.fit
 says_small steps book (Disk t) has large = large has.fit
 

@@ -1,6 +1,6 @@
 -- Rows that are read one after the other and put into tables.
-use Rattle.std.proofs.Common.{◌≡◌, ℕ, zero, suc, ◌+◌, ◌-◌, ◌<◌, ◌≤◌, List, [], ◌∷◌, ◌++◌, length, map, get_or, refl, sym, ap, subst, ◌∙◌, inl, inr, arith, append-nil, append_assoc, add-one, Result, Ok, Err}
-use Rattle.std.specs.Prelude.{codes, decimal, slice_index_or, MatchResult}
+use Rattle.std.proofs.Common.{◌≡◌, ℕ, zero, suc, ◌+◌, ◌-◌, ◌<◌, ◌≤◌, List, [], ◌∷◌, ◌++◌, length, map, get_or, refl, sym, ap, subst, ◌∙◌, inl, inr, arith, append-nil, append_assoc, add-one}
+use Rattle.std.specs.Prelude.{codes, decimal, slice_index_or}
 use Rattle.std.specs.List.{range_with_len, flat_map}
 use Rattle.std.proofs.lemmas.Bool.{cases_lt}
 use Rattle.level_book.specs.UnderTable.{Entry}
@@ -14,7 +14,10 @@ use Rattle.cert_text.specs.Meaning.{HasWord, HaveWords}
 use Rattle.cert_text.specs.Grammar.{Want, row_wants, rows_wants}
 use Rattle.cert_text.specs.Faults.{IsLineFault}
 use Rattle.cert_text.specs.ReaderState.{Unread, IsAmong}
-use Rattle.cert_text.specs.Rows.{Reads, KeepsFresh, KeepsHeld, KeepsLevels, wants_for, cost_word}
+use Rattle.cert_text.specs.Rows.{Reads, Keeps, wants_for, cost_word}
+use Rattle.cert_text.specs.declared.stretches.Stretches.{Stretches}
+use Rattle.cert_text.specs.declared.stretches.Stretches.TheVariants.{Fresh, Held}
+use Rattle.cert_text.specs.Stretches.{rows_of}
 use Rattle.cert_text.proofs.Ranges.{map_more, flat_same, flat_more}
 use Rattle.cert_text.proofs.EntryLines.{same_rows}
 use Rattle.cert_text.proofs.ReaderSteps.{reads_none, reads_then}
@@ -105,34 +108,30 @@ row_wrong letter k steps m n e a b fault low so wrong =
     among (map (λ m. row_wants (letter ∷ decimal k ∷ decimal m ∷ []) steps) (range_with_len 0 m)) (row_wants (letter ∷ decimal k ∷ decimal m ∷ []) steps ∷ []) parts.0 (map (λ m. row_wants (letter ∷ decimal k ∷ decimal m ∷ []) steps) (range_with_len 0 n))
     (row_lines letter k steps m e) a b fault so.reads all wrong
 
-pub keeps_fresh : (k : ℕ) (t : TableRows) → KeepsFresh (λ i n. i ≡ k) t t
-keeps_fresh k t = record { steps = refl; rooms = refl; held = refl; others = λ i j n least away. refl }
+pub keeps_all : (k : ℕ) (s : Stretches) (t : TableRows) → Keeps s (λ i j n. i ≡ k) t t
+keeps_all k s t = record { steps = refl; rooms = refl; apart = refl; others = λ i j n least away. refl }
 
-pub keeps_fresh_more : (k m : ℕ) (s t u : TableRows) → KeepsFresh (λ i n. i ≡ k) s t → KeepsFresh (λ i n. (i ≡ k) × (n ≡ m)) t u → KeepsFresh (λ i n. i ≡ k) s u
-keeps_fresh_more k m s t u first second = record {
+pub keeps_more : (k m : ℕ) (s : Stretches) (t u v : TableRows) → Keeps s (λ i j n. i ≡ k) t u → Keeps s (λ i j n. (i ≡ k) × (n ≡ m)) u v → Keeps s (λ i j n. i ≡ k) t v
+keeps_more k m s t u v first second = record {
   steps = second.steps ∙ first.steps;
   rooms = second.rooms ∙ first.rooms;
-  held = second.held ∙ first.held;
+  apart = second.apart ∙ first.apart;
   others = λ i j n least away. second.others i j n least (λ at. away at.0) ∙ first.others i j n least away;
 }
 
-pub keeps_held : (k : ℕ) (t : TableRows) → KeepsHeld (λ i n. i ≡ k) t t
-keeps_held k t = record { steps = refl; rooms = refl; fresh = refl; others = λ i j n least away. refl }
-
-pub keeps_held_more : (k m : ℕ) (s t u : TableRows) → KeepsHeld (λ i n. i ≡ k) s t → KeepsHeld (λ i n. (i ≡ k) × (n ≡ m)) t u → KeepsHeld (λ i n. i ≡ k) s u
-keeps_held_more k m s t u first second = record {
-  steps = second.steps ∙ first.steps;
-  rooms = second.rooms ∙ first.rooms;
-  fresh = second.fresh ∙ first.fresh;
-  others = λ i j n least away. second.others i j n least (λ at. away at.0) ∙ first.others i j n least away;
-}
+-- the entries of all levels but k are kept
+pub record KeepsLevels (k : ℕ) (old new : TableRows) : Type 0 where
+  pub steps : new.steps ≡ old.steps
+  pub rooms : new.rooms ≡ old.rooms
+  pub fresh : (i j n : ℕ) → 1 ≤ j → (i ≡ k → ⊥) → (tables_in new).fresh i j n ≡ (tables_in old).fresh i j n
+  pub held : (i j n : ℕ) → 1 ≤ j → (i ≡ k → ⊥) → (tables_in new).held i j n ≡ (tables_in old).held i j n
 
 -- the lines of a level
 pub level_done : (k : ℕ) (s t u : TableRows) (a b c : Unread) →
     Reads (rows_wants (codes "F") k s.steps (slice_index_or s.rooms k 0 + 1)) (row_lines (codes "F") k s.steps (slice_index_or s.rooms k 0 + 1) (λ m l. (tables_in t).fresh k l m)) a b →
-    ((m l : ℕ) → m ≤ slice_index_or s.rooms k 0 → 1 ≤ l → l ≤ s.steps → HasWord ((tables_in t).fresh k l m)) → KeepsFresh (λ i n. i ≡ k) s t →
+    ((m l : ℕ) → m < rows_of Fresh s k → 1 ≤ l → l ≤ s.steps → HasWord ((tables_in t).fresh k l m)) → Keeps Fresh (λ i j n. i ≡ k) s t →
     Reads (rows_wants (codes "H") k t.steps (slice_index_or t.rooms k 0)) (row_lines (codes "H") k t.steps (slice_index_or t.rooms k 0) (λ m l. (tables_in u).held k l m)) b c →
-    ((m l : ℕ) → m < slice_index_or t.rooms k 0 → 1 ≤ l → l ≤ t.steps → HasWord ((tables_in u).held k l m)) → KeepsHeld (λ i n. i ≡ k) t u →
+    ((m l : ℕ) → m < slice_index_or t.rooms k 0 → 1 ≤ l → l ≤ t.steps → HasWord ((tables_in u).held k l m)) → Keeps Held (λ i j n. i ≡ k) t u →
     Reads (wants_for s k) (level_lines u k) a c × HaveWords u k × KeepsLevels k s u
 unfolding wants_for level_lines
 level_done k s t u a b c first fs keeps second hs holds =
@@ -140,7 +139,7 @@ level_done k s t u a b c first fs keeps second hs holds =
     let rooms : t.rooms ≡ s.rooms = keeps.rooms in
     let last_steps : u.steps ≡ s.steps = holds.steps ∙ keeps.steps in
     let last_rooms : u.rooms ≡ s.rooms = holds.rooms ∙ keeps.rooms in
-    let same : (tables_in u).fresh ≡ (tables_in t).fresh = ap (λ (rows : List (List (List Entry))). (λ k l m. entry_at rows k (l - 1) m)) holds.fresh in
+    let same : (tables_in u).fresh ≡ (tables_in t).fresh = ap (λ (rows : List (List (List Entry))). (λ k l m. entry_at rows k (l - 1) m)) holds.apart in
     let h_wants : rows_wants (codes "H") k t.steps (slice_index_or t.rooms k 0) ≡ rows_wants (codes "H") k s.steps (slice_index_or s.rooms k 0) =
     (λ i. rows_wants (codes "H") k (steps i) (slice_index_or (rooms i) k 0)) in
     let f_lines : row_lines (codes "F") k s.steps (slice_index_or s.rooms k 0 + 1) (λ m l. (tables_in t).fresh k l m) ≡ row_lines (codes "F") k u.steps (slice_index_or u.rooms k 0 + 1) (λ m l. (tables_in u).fresh k l m) =
@@ -163,21 +162,16 @@ level_done k s t u a b c first fs keeps second hs holds =
         steps = last_steps;
         rooms = last_rooms;
         fresh = λ i j n least away. (λ x. same x i j n) ∙ keeps.others i j n least away;
-        held = λ i j n least away. holds.others i j n least away ∙ ap (λ (rows : List (List (List Entry))). entry_at rows i (j - 1) n) keeps.held;
+        held = λ i j n least away. holds.others i j n least away ∙ ap (λ (rows : List (List (List Entry))). entry_at rows i (j - 1) n) keeps.apart;
       },
     )
 
-pub level_end : {T : Type 0} (answer : Result T Fault) (k : ℕ) (s t u : TableRows) (a b c : Unread) →
+-- a fault in those of held stretches
+pub level_wrong_later : (k : ℕ) (s t : TableRows) (a b : Unread) (fault : Fault) →
     Reads (rows_wants (codes "F") k s.steps (slice_index_or s.rooms k 0 + 1)) (row_lines (codes "F") k s.steps (slice_index_or s.rooms k 0 + 1) (λ m l. (tables_in t).fresh k l m)) a b →
-    ((m l : ℕ) → m ≤ slice_index_or s.rooms k 0 → 1 ≤ l → l ≤ s.steps → HasWord ((tables_in t).fresh k l m)) → KeepsFresh (λ i n. i ≡ k) s t →
-    MatchResult answer
-    (λ _. Reads (rows_wants (codes "H") k t.steps (slice_index_or t.rooms k 0)) (row_lines (codes "H") k t.steps (slice_index_or t.rooms k 0) (λ m l. (tables_in u).held k l m)) b c
-    × ((m l : ℕ) → m < slice_index_or t.rooms k 0 → 1 ≤ l → l ≤ t.steps → HasWord ((tables_in u).held k l m)) × KeepsHeld (λ i n. i ≡ k) t u)
-    (λ fault. IsAmong (rows_wants (codes "H") k t.steps (slice_index_or t.rooms k 0)) b fault) →
-    MatchResult answer (λ _. Reads (wants_for s k) (level_lines u k) a c × HaveWords u k × KeepsLevels k s u) (λ fault. IsAmong (wants_for s k) a fault)
+    Keeps Fresh (λ i j n. i ≡ k) s t → IsAmong (rows_wants (codes "H") k t.steps (slice_index_or t.rooms k 0)) b fault → IsAmong (wants_for s k) a fault
 unfolding wants_for
-level_end (Ok x) k s t u a b c first fs keeps rest = level_done k s t u a b c first fs keeps rest.0 rest.1 rest.2
-level_end (Err fault) k s t u a b c first fs keeps wrong =
+level_wrong_later k s t a b fault first keeps wrong =
     let h_wants : rows_wants (codes "H") k t.steps (slice_index_or t.rooms k 0) ≡ rows_wants (codes "H") k s.steps (slice_index_or s.rooms k 0) =
     (λ i. rows_wants (codes "H") k (keeps.steps i) (slice_index_or (keeps.rooms i) k 0)) in
     let f_wants = rows_wants (codes "F") k s.steps (slice_index_or s.rooms k 0 + 1) in

@@ -1,6 +1,6 @@
 -- Lines of entries that are written.
 use Rattle.std.proofs.Common.{◌≡◌, ℕ, ◌+◌, ◌<◌, List, [], ◌∷◌, ◌++◌, map, refl, sym, ap, subst, ◌∙◌, arith, append_assoc, add-one, Result, Ok, Err, OnOk, OnErr}
-use Rattle.std.specs.Prelude.{codes, decimal}
+use Rattle.std.specs.Prelude.{codes, decimal, slice_index_or}
 use Rattle.std.specs.List.{range_with_len, flat_map}
 use Rattle.std.proofs.lemmas.List.Concat.{flat_map-append}
 use Rattle.level_book.specs.UnderTable.{Entry}
@@ -12,6 +12,9 @@ use Rattle.cert_text.specs.WordLines.{entry_word, row_line, row_lines, level_lin
 use Rattle.cert_text.specs.Canonical.{pieces_from}
 use Rattle.cert_text.specs.LineWrites.{Puts, StopsAt, writes}
 use Rattle.cert_text.specs.Rows.{cost_word}
+use Rattle.cert_text.specs.declared.stretches.Stretches.{Stretches}
+use Rattle.cert_text.specs.declared.stretches.Stretches.TheVariants.{Fresh, Held}
+use Rattle.cert_text.specs.Stretches.{rows_of}
 use Rattle.cert_text.proofs.Ranges.{map_more, flat_more}
 use Rattle.cert_text.proofs.ReadRows.{lines_more, split_at, flat_split}
 use Rattle.cert_text.proofs.WordWrites.{put_then, stop_then, line_stopped, one_line_ended, one_line_stopped}
@@ -155,6 +158,11 @@ pub last_row_stopped : {T E : Type 0} (r : Result T E) (letter : List ℕ) (k st
     OnErr r (StopsIn (writes (row_line (letter ∷ decimal k ∷ decimal m ∷ []) steps (e m) ∷ [])) b c) → OnErr r (StopsIn (writes (row_lines letter k steps (m + 1) e)) a c)
 last_row_stopped r letter k steps m e a b c so next =
     last_stopped r (row_lines letter k steps m e) (row_line (letter ∷ decimal k ∷ decimal m ∷ []) steps (e m) ∷ []) (row_lines letter k steps (m + 1) e) a b c (sym (lines_more letter k steps m e)) so next
+
+-- each number of free slots below the most has a line
+pub below_rows : (s : Stretches) (t : TableRows) (k m : ℕ) → m < slice_index_or t.rooms k 0 → m < rows_of s t k
+below_rows Fresh t k m low = omega (arith, low)
+below_rows Held t k m low = low
 
 -- ---- all levels
 

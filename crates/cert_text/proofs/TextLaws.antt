@@ -106,8 +106,8 @@ kind_or_none (w ∷ ws) = elim (same_or_other w.text (kind_word kind.Revolve)) [
     no_kind text revolve places nested disk kind.Disk e = disk e
 
 large_or_not : (kind : Kind) (steps : ℕ) (book : BookCosts) → IsTooLarge kind steps book ⊎ (IsTooLarge kind steps book → ⊥)
-large_or_not kind.Revolve steps book = inr (λ large. large)
-large_or_not kind.Places steps book = inr (λ large. large)
+large_or_not kind.Revolve steps book = inr (λ large. large tt)
+large_or_not kind.Places steps book = inr (λ large. large tt)
 large_or_not kind.Nested steps book = elim (fits_or_not steps book) [ inl fit ↦ inr (λ large. large fit) | inr not ↦ inl not ]
 large_or_not kind.Disk steps book = elim (disk_fits_or_not steps book) [ inl fit ↦ inr (λ large. large fit) | inr not ↦ inl not ]
 

@@ -121,7 +121,7 @@ answered steps book bytes text kind number start later all behind (Err (At r l c
     let P : List CertificateLine → Type 0 = λ ls. IsFault steps book ls start.count r l c in
     inr (fault_of steps book bytes start r l c is (subst P (sym first) here))
 
--- of a kind that is never too large
+-- of a kind that isn't too large
 pub sized : (kind : Kind) (steps : ℕ) (book : BookCosts) (number named : ℕ) (behind : Left) (later : Unread) (answer : Result Certificate Fault) → (IsTooLarge kind steps book → ⊥) →
     MatchResult answer (λ certificate. SaysRest kind steps book behind later certificate) (λ fault. (fault ≡ Memory) ⊎ IsAt (IsRestFault kind steps book number behind later) fault) →
     MatchResult answer (λ certificate. SaysRest kind steps book behind later certificate) (λ fault. (fault ≡ Memory) ⊎ IsAt (IsSizedFault kind steps book number named behind later) fault)

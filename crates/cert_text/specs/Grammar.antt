@@ -60,12 +60,16 @@ later_wants Places steps book = []
 later_wants Nested steps book = flat_map (level_wants steps book) (range_with_len 0 (length book.levels)) ++ (this_word (codes "end") ∷ []) ∷ []
 later_wants Disk steps book = flat_map (level_wants steps (tables.fastest book)) (range_with_len 0 (length (tables.fastest book).levels)) ++ column_wants steps
 
--- tables for so many steps and the book can't be built
+-- the tables of this kind, if it has any, can be built for so many steps and the book
+abbrev pub Fits : Kind → ℕ → BookCosts → Type 0
+Fits Revolve steps book = Unit {0}
+Fits Places steps book = Unit {0}
+Fits Nested steps book = tables.TablesFit steps book
+Fits Disk steps book = tables.FastestTablesFit steps book
+
+-- they can't be built
 abbrev pub IsTooLarge : Kind → ℕ → BookCosts → Type 0
-IsTooLarge Revolve steps book = ⊥
-IsTooLarge Places steps book = ⊥
-IsTooLarge Nested steps book = tables.TablesFit steps book → ⊥
-IsTooLarge Disk steps book = tables.FastestTablesFit steps book → ⊥
+IsTooLarge kind steps book = Fits kind steps book → ⊥
 
 -- all lines
 abbrev pub wants_of : Kind → ℕ → BookCosts → List (List Want)

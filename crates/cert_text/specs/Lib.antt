@@ -9,4 +9,5 @@ pub mod Laws
 pub mod ReaderState
 pub mod Rows
 pub mod LineWrites
+pub mod Stretches
 pub mod Prelude

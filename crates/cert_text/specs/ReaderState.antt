@@ -57,6 +57,10 @@ abbrev pub IsAt : (ℕ → ℕ → ℕ → Type 0) → Fault → Type 0
 IsAt P (At rule line column) = P rule line column
 IsAt P Memory = ⊥
 
+-- the first fault of the lines that are left, which come after the first line, or there was no memory
+abbrev pub IsLaterFault : Kind → ℕ → BookCosts → Unread → Fault → Type 0
+IsLaterFault kind steps book later fault = (fault ≡ Memory) ⊎ IsAt (IsLineFault (later_wants kind steps book) later.lines later.count) fault
+
 -- The first fault of the words after the kind's, and of the lines after theirs. These words are in the line with this
 -- number.
 abbrev pub IsRestFault : Kind → ℕ → BookCosts → ℕ → Left → Unread → ℕ → ℕ → ℕ → Type 0

@@ -27,6 +27,8 @@ mod printing_rows;
 mod reader;
 mod reading;
 mod rows;
+mod setting;
+mod stretches;
 mod words;
 
 pub use crate::certificate::Certificate;

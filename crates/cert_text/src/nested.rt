@@ -1,45 +1,38 @@
 // Texts of tables over the levels of a book.
-ghost use Rattle.std.specs.Prelude.{◌≡◌, ◌⊎◌, ◌<◌, ◌≤◌, ◌+◌, ℕ, [], ◌∷◌, ◌++◌, length, map, codes, slice_index_or, MatchResult, IfOk};
+ghost use Rattle.std.specs.Prelude.{◌≡◌, ◌<◌, ◌≤◌, ◌+◌, ℕ, [], ◌∷◌, ◌++◌, length, map, codes, slice_index_or, MatchResult, IfOk};
 ghost use Rattle.std.specs.List.{range_with_len, flat_map};
-ghost use Rattle.line_texts.specs.declared.fault.Fault.{Fault};
-ghost use Rattle.cost_tables.specs.Prelude.{TablesFit, tables_in};
+ghost use Rattle.cost_tables.specs.Prelude.{TablesFit};
 ghost use Rattle.cert_text.specs.declared.kind.Kind.TheVariants as kind;
 ghost use Rattle.cert_text.specs.Words.{texts_of};
 ghost use Rattle.cert_text.specs.WordLines.{row_lines, level_lines};
 ghost use Rattle.cert_text.specs.Meaning.{HasWord, HaveWords, HaveText};
-ghost use Rattle.cert_text.specs.Grammar.{this_word, rows_wants, later_wants};
+ghost use Rattle.cert_text.specs.Grammar.{this_word, rows_wants};
 ghost use Rattle.cert_text.specs.Faults.{IsWordFault, IsLineFault};
-ghost use Rattle.cert_text.specs.ReaderState.{IsAt, IsAmong, number_of_rule, texts};
-ghost use Rattle.cert_text.specs.Rows.{Reads, KeepsFresh, KeepsHeld, KeepsLevels, wants_for};
+ghost use Rattle.cert_text.specs.ReaderState.{IsAt, IsLaterFault, IsAmong, number_of_rule, texts};
+ghost use Rattle.cert_text.specs.Rows.{Reads, Keeps, wants_for};
+ghost use Rattle.cert_text.specs.Stretches.{letter_of, rows_of, entries_of};
 
 use crate::fault::Rule;
 use crate::reader::Reader;
-use crate::rows::{put_fresh, put_held, read_row};
+use crate::rows::{put_row, read_row};
+use crate::setting::Setting;
+use crate::stretches::Stretches;
 use crate::words::Words;
 use cost_tables::{Cost, Tables};
-use level_book::Book;
 use line_texts::{Fault, LineFault};
 use std::alloc::{AllocError, Global};
 
 // Reads the lines of tables after the line that names them.
-pub(crate) fn read_nested(
-    alloc: Global,
-    reader: &mut Reader<'_>,
-    steps: u32,
-    book: &Book,
-) -> Result<Tables, Fault>
-    requires { TablesFit steps book.now }
+pub(crate) fn read_nested(reader: &mut Reader<'_>, setting: &Setting<'_>) -> Result<Tables, Fault>
+    requires { TablesFit setting.now.steps setting.now.book.now }
     ensures { MatchResult result
-        (λ t. HaveText steps book.now t
+        (λ t. HaveText setting.now.steps setting.now.book.now t
         × (map texts_of reader.old.lines ≡ flat_map (level_lines t) (range_with_len 0 (length t.rooms)) ++ (codes "end" ∷ []) ∷ []))
-        (λ fault. (fault ≡ Fault.Memory) ⊎ IsAt (IsLineFault (later_wants kind.Nested steps book.now) reader.old.lines reader.old.count) fault) }
+        (IsLaterFault kind.Nested setting.now.steps setting.now.book.now reader.old) }
 {
-    let Ok(mut tables) = Tables::never(alloc, steps, book) else {
-        return Err(Fault::Memory);
-    };
-    let Ok(mut row) = empty_row(alloc, steps) else {
-        return Err(Fault::Memory);
-    };
+    let Setting { alloc, steps, book } = *setting;
+    let mut tables = Tables::never(alloc, steps, book)?;
+    let mut row = empty_row(alloc, steps)?;
     read_levels(reader, &mut row, &mut tables)?;
     read_end(reader)?;
     tables.is_shaped();
@@ -97,13 +90,15 @@ pub(crate) fn read_levels(
 {
     let levels = tables.levels();
     for k in 0..levels {
-        read_level(k, reader, row, tables)?;
+        read_rows(Stretches::Fresh, k, reader, row, tables)?;
+        read_rows(Stretches::Held, k, reader, row, tables)?;
     }
     Ok(())
 }
 
-// Reads the lines of level k.
-fn read_level(
+// Reads the lines of level k for such stretches.
+fn read_rows(
+    stretches: Stretches,
     k: u8,
     reader: &mut Reader<'_>,
     row: &mut [Cost],
@@ -113,58 +108,16 @@ fn read_level(
     requires row { length row.old ≡ tables.old.steps }
     requires narrow { slice_index_or tables.old.rooms k 0 ≤ 64 }
     ensures { MatchResult result
-        (λ _. Reads (wants_for tables.old k) (level_lines tables.new k) reader.old reader.new × HaveWords tables.new k × KeepsLevels k tables.old tables.new)
-        (λ fault. IsAmong (wants_for tables.old k) reader.old fault) }
+        (λ _. Reads (rows_wants (letter_of stretches) k tables.old.steps (rows_of stretches tables.old k))
+        (row_lines (letter_of stretches) k tables.old.steps (rows_of stretches tables.old k) (entries_of stretches tables.new k)) reader.old reader.new
+        × ((m l : ℕ) → m < rows_of stretches tables.old k → 1 ≤ l → l ≤ tables.old.steps → HasWord (entries_of stretches tables.new k m l))
+        × Keeps stretches (λ i j n. i ≡ k) tables.old tables.new)
+        (λ fault. IsAmong (rows_wants (letter_of stretches) k tables.old.steps (rows_of stretches tables.old k)) reader.old fault) }
 {
-    read_fresh(k, reader, row, tables)?;
-    read_held(k, reader, row, tables)
-}
-
-// Reads those of stretches whose first state is in work.
-fn read_fresh(
-    k: u8,
-    reader: &mut Reader<'_>,
-    row: &mut [Cost],
-    tables: &mut Tables,
-) -> Result<(), Fault>
-    requires k { k < length tables.old.rooms }
-    requires row { length row.old ≡ tables.old.steps }
-    requires narrow { slice_index_or tables.old.rooms k 0 ≤ 64 }
-    ensures { MatchResult result
-        (λ _. Reads (rows_wants (codes "F") k tables.old.steps (slice_index_or tables.old.rooms k 0 + 1))
-        (row_lines (codes "F") k tables.old.steps (slice_index_or tables.old.rooms k 0 + 1) (λ m l. (tables_in tables.new).fresh k l m)) reader.old reader.new
-        × ((m l : ℕ) → m ≤ slice_index_or tables.old.rooms k 0 → 1 ≤ l → l ≤ tables.old.steps → HasWord ((tables_in tables.new).fresh k l m))
-        × KeepsFresh (λ i n. i ≡ k) tables.old tables.new)
-        (λ fault. IsAmong (rows_wants (codes "F") k tables.old.steps (slice_index_or tables.old.rooms k 0 + 1)) reader.old fault) }
-{
-    let count = tables.room(k) + 1;
+    let count = stretches.rows(tables, k);
     for m in 0..count {
-        read_row(b"F", k, m, reader, row)?;
-        put_fresh(k, m, row, tables);
-    }
-    Ok(())
-}
-
-// Reads those of stretches whose first state is held on the level.
-fn read_held(
-    k: u8,
-    reader: &mut Reader<'_>,
-    row: &mut [Cost],
-    tables: &mut Tables,
-) -> Result<(), Fault>
-    requires k { k < length tables.old.rooms }
-    requires row { length row.old ≡ tables.old.steps }
-    ensures { MatchResult result
-        (λ _. Reads (rows_wants (codes "H") k tables.old.steps (slice_index_or tables.old.rooms k 0))
-        (row_lines (codes "H") k tables.old.steps (slice_index_or tables.old.rooms k 0) (λ m l. (tables_in tables.new).held k l m)) reader.old reader.new
-        × ((m l : ℕ) → m < slice_index_or tables.old.rooms k 0 → 1 ≤ l → l ≤ tables.old.steps → HasWord ((tables_in tables.new).held k l m))
-        × KeepsHeld (λ i n. i ≡ k) tables.old tables.new)
-        (λ fault. IsAmong (rows_wants (codes "H") k tables.old.steps (slice_index_or tables.old.rooms k 0)) reader.old fault) }
-{
-    let count = tables.room(k);
-    for m in 0..count {
-        read_row(b"H", k, m, reader, row)?;
-        put_held(k, m, row, tables);
+        read_row(stretches.letter(), k, m, reader, row)?;
+        put_row(stretches, k, m, row, tables);
     }
     Ok(())
 }

@@ -36,9 +36,9 @@ impl Piece {
     pub(crate) fn word<O: Sink>(&mut self, word: &[u8], out: &mut O) -> Result<(), SinkFault>
         requires { length word.now ≤ 20 }
         ensures ok { OnOk result (Puts (word.now ∷ []) self.old.room self.old.text self.new.room self.new.text
-            (seen O.told O.call_count O.fault_count out.old) (seen O.told O.call_count O.fault_count out.new)) }
-        ensures stopped { OnErr result (StopsAt (word.now ∷ []) self.old.room self.old.text (seen O.told O.call_count O.fault_count out.old)
-            (seen O.told O.call_count O.fault_count out.new)) }
+            (seen O.Sink out.old) (seen O.Sink out.new)) }
+        ensures stopped { OnErr result (StopsAt (word.now ∷ []) self.old.room self.old.text (seen O.Sink out.old)
+            (seen O.Sink out.new)) }
     {
         if self.room > 0 {
             self.add(word);
@@ -66,9 +66,9 @@ impl Piece {
     // Puts a number into it.
     pub(crate) fn number<O: Sink>(&mut self, n: u64, out: &mut O) -> Result<(), SinkFault>
         ensures ok { OnOk result (Puts (decimal n ∷ []) self.old.room self.old.text self.new.room self.new.text
-            (seen O.told O.call_count O.fault_count out.old) (seen O.told O.call_count O.fault_count out.new)) }
-        ensures stopped { OnErr result (StopsAt (decimal n ∷ []) self.old.room self.old.text (seen O.told O.call_count O.fault_count out.old)
-            (seen O.told O.call_count O.fault_count out.new)) }
+            (seen O.Sink out.old) (seen O.Sink out.new)) }
+        ensures stopped { OnErr result (StopsAt (decimal n ∷ []) self.old.room self.old.text (seen O.Sink out.old)
+            (seen O.Sink out.new)) }
     {
         let mut word = Line::new();
         word.push_decimal(n);
@@ -77,10 +77,10 @@ impl Piece {
 
     // Writes what it has, and the line's end.
     pub(crate) fn end<O: Sink>(self, out: &mut O) -> Result<(), SinkFault>
-        ensures ok { OnOk result (AddsLines (pieces_from self.room self.text []) (seen O.told O.call_count O.fault_count out.old)
-            (seen O.told O.call_count O.fault_count out.new)) }
-        ensures stopped { OnErr result (StopsIn (pieces_from self.room self.text []) (seen O.told O.call_count O.fault_count out.old)
-            (seen O.told O.call_count O.fault_count out.new)) }
+        ensures ok { OnOk result (AddsLines (pieces_from self.room self.text []) (seen O.Sink out.old)
+            (seen O.Sink out.new)) }
+        ensures stopped { OnErr result (StopsIn (pieces_from self.room self.text []) (seen O.Sink out.old)
+            (seen O.Sink out.new)) }
     {
         let mut text = self.text;
         text.push(b"\n");

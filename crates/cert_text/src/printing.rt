@@ -16,8 +16,8 @@ pub fn print_certificate<O: Sink>(certificate: &Certificate, out: &mut O) -> Res
     ensures calls { OnOk result (O.call_count out.new ≡ raised (O.call_count out.old) (length (pieces certificate.now))) }
 
     // If a write fails, the writes before it were added.
-    ensures stopped { OnErr result (StopsIn (pieces certificate.now) (seen O.told O.call_count O.fault_count out.old)
-        (seen O.told O.call_count O.fault_count out.new)) }
+    ensures stopped { OnErr result (StopsIn (pieces certificate.now) (seen O.Sink out.old)
+        (seen O.Sink out.new)) }
 
     // A fault is returned only if the output counts one.
     ensures quiet { OnOk result (O.fault_count out.new ≡ O.fault_count out.old) }
@@ -28,10 +28,10 @@ pub fn print_certificate<O: Sink>(certificate: &Certificate, out: &mut O) -> Res
 
 // Prints a certificate, with one clause for each outcome.
 fn print<O: Sink>(certificate: &Certificate, out: &mut O) -> Result<(), SinkFault>
-    ensures ok { OnOk result (AddsLines (pieces certificate.now) (seen O.told O.call_count O.fault_count out.old)
-        (seen O.told O.call_count O.fault_count out.new)) }
-    ensures stopped { OnErr result (StopsIn (pieces certificate.now) (seen O.told O.call_count O.fault_count out.old)
-        (seen O.told O.call_count O.fault_count out.new)) }
+    ensures ok { OnOk result (AddsLines (pieces certificate.now) (seen O.Sink out.old)
+        (seen O.Sink out.new)) }
+    ensures stopped { OnErr result (StopsIn (pieces certificate.now) (seen O.Sink out.old)
+        (seen O.Sink out.new)) }
 {
     match certificate {
         Certificate::Revolve { k, value } => print_revolve(*k, *value, out),
@@ -42,10 +42,10 @@ fn print<O: Sink>(certificate: &Certificate, out: &mut O) -> Result<(), SinkFaul
 }
 
 fn print_revolve<O: Sink>(k: u32, value: u64, out: &mut O) -> Result<(), SinkFault>
-    ensures ok { OnOk result (AddsLines (pieces (Certificate.Revolve k value)) (seen O.told O.call_count O.fault_count out.old)
-        (seen O.told O.call_count O.fault_count out.new)) }
-    ensures stopped { OnErr result (StopsIn (pieces (Certificate.Revolve k value)) (seen O.told O.call_count O.fault_count out.old)
-        (seen O.told O.call_count O.fault_count out.new)) }
+    ensures ok { OnOk result (AddsLines (pieces (Certificate.Revolve k value)) (seen O.Sink out.old)
+        (seen O.Sink out.new)) }
+    ensures stopped { OnErr result (StopsIn (pieces (Certificate.Revolve k value)) (seen O.Sink out.old)
+        (seen O.Sink out.new)) }
 {
     let mut piece = Piece::new();
     piece.word(b"revolve", out)?;
@@ -55,10 +55,10 @@ fn print_revolve<O: Sink>(k: u32, value: u64, out: &mut O) -> Result<(), SinkFau
 }
 
 fn print_places<O: Sink>(threshold: u64, out: &mut O) -> Result<(), SinkFault>
-    ensures ok { OnOk result (AddsLines (pieces (Certificate.Places threshold)) (seen O.told O.call_count O.fault_count out.old)
-        (seen O.told O.call_count O.fault_count out.new)) }
-    ensures stopped { OnErr result (StopsIn (pieces (Certificate.Places threshold)) (seen O.told O.call_count O.fault_count out.old)
-        (seen O.told O.call_count O.fault_count out.new)) }
+    ensures ok { OnOk result (AddsLines (pieces (Certificate.Places threshold)) (seen O.Sink out.old)
+        (seen O.Sink out.new)) }
+    ensures stopped { OnErr result (StopsIn (pieces (Certificate.Places threshold)) (seen O.Sink out.old)
+        (seen O.Sink out.new)) }
 {
     let mut piece = Piece::new();
     piece.word(b"places", out)?;

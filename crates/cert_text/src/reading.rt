@@ -5,11 +5,11 @@ ghost use Rattle.line_texts.specs.declared.fault.Fault.{Fault};
 ghost use Rattle.level_book.specs.Prelude.{BookCosts};
 ghost use Rattle.cert_text.specs.declared.reading.TheConstants.{MOST_REPEATS};
 ghost use Rattle.cert_text.specs.declared.certificate.Certificate.{Certificate};
-ghost use Rattle.cert_text.specs.Grammar.{first_wants};
+ghost use Rattle.cert_text.specs.Grammar.{Fits, first_wants};
 ghost use Rattle.cert_text.specs.Meaning.{IsCertificateText};
 ghost use Rattle.cert_text.specs.Words.{words_of, end_of};
 ghost use Rattle.cert_text.specs.Faults.{IsWordFault, HasFirstFault, first_column};
-ghost use Rattle.cert_text.specs.ReaderState.{IsAt, IsSizedFault, IsRestFault, SaysRest, number_of_rule, texts};
+ghost use Rattle.cert_text.specs.ReaderState.{IsAt, IsRestFault, SaysRest, number_of_rule, texts};
 
 use crate::certificate::Certificate;
 use crate::disk::read_disk;
@@ -18,9 +18,8 @@ use crate::kind::Kind;
 use crate::lines::MarkedLine;
 use crate::nested::read_nested;
 use crate::reader::Reader;
+use crate::setting::Setting;
 use crate::words::Words;
-use cost_tables::Tables;
-use disk_gen::DiskTables;
 use level_book::Book;
 use line_texts::{Fault, LineFault};
 use std::alloc::Global;
@@ -67,10 +66,13 @@ fn read(alloc: Global, bytes: &[u8], steps: u32, book: &Book) -> Result<Certific
         Ok(first) => {
             let mut words = Words::new(first.text, 3);
             match words.kind() {
-                Ok(Kind::Revolve) => revolve(first.number, &mut words, &mut reader),
-                Ok(Kind::Places) => places(first.number, &mut words, &mut reader),
-                Ok(Kind::Nested) => nested(alloc, &first, &mut words, &mut reader, steps, book),
-                Ok(Kind::Disk) => disk(alloc, &first, &mut words, &mut reader, steps, book),
+                Ok(kind) => {
+                    if !kind.fits(steps, book) {
+                        return Err(too_large(&first));
+                    }
+                    let setting = Setting { alloc, steps, book };
+                    read_rest(kind, first.number, &mut words, &mut reader, &setting)
+                }
                 Err(column) => Err(Fault::At {
                     rule: 2,
                     line: first.number,
@@ -78,6 +80,38 @@ fn read(alloc: Global, bytes: &[u8], steps: u32, book: &Book) -> Result<Certific
                 }),
             }
         }
+    }
+}
+
+// Reads what comes after the word of a kind, which is in the line with this number.
+fn read_rest(
+    kind: Kind,
+    number: u32,
+    words: &mut Words<'_>,
+    reader: &mut Reader<'_>,
+    setting: &Setting<'_>,
+) -> Result<Certificate, Fault>
+    requires { Fits kind setting.now.steps setting.now.book.now }
+    ensures { MatchResult result
+        (λ certificate. SaysRest kind setting.now.steps setting.now.book.now words.old reader.old certificate)
+        (λ fault. (fault ≡ Fault.Memory)
+        ⊎ IsAt (IsRestFault kind setting.now.steps setting.now.book.now number words.old reader.old) fault) }
+{
+    match kind {
+        Kind::Revolve => revolve(number, words, reader),
+        Kind::Places => places(number, words, reader),
+        Kind::Nested => match words.finish() {
+            Ok(()) => Ok(Certificate::Nested {
+                tables: read_nested(reader, setting)?,
+            }),
+            Err(fault) => Err(fault.at(number)),
+        },
+        Kind::Disk => match words.finish() {
+            Ok(()) => Ok(Certificate::Disk {
+                tables: read_disk(reader, setting)?,
+            }),
+            Err(fault) => Err(fault.at(number)),
+        },
     }
 }
 
@@ -151,65 +185,5 @@ fn too_large(first: &MarkedLine<'_>) -> Fault
         rule: 5,
         line: first.number,
         column: Words::new(first.text, 3).first_column(),
-    }
-}
-
-// Reads what comes after the word of tables, which is in this line. They are too large if they can't be built.
-fn nested(
-    alloc: Global,
-    first: &MarkedLine<'_>,
-    words: &mut Words<'_>,
-    reader: &mut Reader<'_>,
-    steps: u32,
-    book: &Book,
-) -> Result<Certificate, Fault>
-    requires { length first.now.text.now < 2 ^ 31 }
-    ensures { MatchResult result
-        (λ certificate. SaysRest Kind.Nested steps book.now words.old reader.old certificate)
-        (λ fault. (fault ≡ Fault.Memory)
-        ⊎ IsAt (IsSizedFault Kind.Nested steps book.now first.now.number
-        (first_column (words_of record { number = first.now.number; text = first.now.text.now }) (end_of record {
-          number = first.now.number;
-          text = first.now.text.now;
-        })) words.old reader.old) fault) }
-{
-    if !Tables::fits(steps, book) {
-        return Err(too_large(first));
-    }
-    match words.finish() {
-        Ok(()) => Ok(Certificate::Nested {
-            tables: read_nested(alloc, reader, steps, book)?,
-        }),
-        Err(fault) => Err(fault.at(first.number)),
-    }
-}
-
-// Reads what comes after the word of disk tables, which is in this line. They are too large if they can't be built.
-fn disk(
-    alloc: Global,
-    first: &MarkedLine<'_>,
-    words: &mut Words<'_>,
-    reader: &mut Reader<'_>,
-    steps: u32,
-    book: &Book,
-) -> Result<Certificate, Fault>
-    requires { length first.now.text.now < 2 ^ 31 }
-    ensures { MatchResult result
-        (λ certificate. SaysRest Kind.Disk steps book.now words.old reader.old certificate)
-        (λ fault. (fault ≡ Fault.Memory)
-        ⊎ IsAt (IsSizedFault Kind.Disk steps book.now first.now.number
-        (first_column (words_of record { number = first.now.number; text = first.now.text.now }) (end_of record {
-          number = first.now.number;
-          text = first.now.text.now;
-        })) words.old reader.old) fault) }
-{
-    if !DiskTables::fits(steps, book) {
-        return Err(too_large(first));
-    }
-    match words.finish() {
-        Ok(()) => Ok(Certificate::Disk {
-            tables: read_disk(alloc, reader, steps, book)?,
-        }),
-        Err(fault) => Err(fault.at(first.number)),
     }
 }

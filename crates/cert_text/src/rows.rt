@@ -1,15 +1,17 @@
 // Lines of entries of tables.
-ghost use Rattle.std.specs.Prelude.{◌≡◌, ◌<◌, ◌≤◌, ◌+◌, ℕ, [], ◌∷◌, ◌++◌, length, map, replicate, decimal, slice_index_or, MatchResult};
+ghost use Rattle.std.specs.Prelude.{◌≡◌, ◌<◌, ◌+◌, ℕ, [], ◌∷◌, ◌++◌, length, map, replicate, decimal, slice_index_or, MatchResult};
 ghost use Rattle.cost_tables.specs.declared.cost.Cost.{Cost};
-ghost use Rattle.cost_tables.specs.Prelude.{tables_in, value_of};
+ghost use Rattle.cost_tables.specs.Prelude.{value_of};
 ghost use Rattle.cert_text.specs.Meaning.{HasWord};
 ghost use Rattle.cert_text.specs.Grammar.{an_entry, row_wants};
 ghost use Rattle.cert_text.specs.Faults.{FitAll, IsWordFault};
 ghost use Rattle.cert_text.specs.ReaderState.{IsAmong, number_of_rule, texts};
-ghost use Rattle.cert_text.specs.Rows.{Reads, KeepsFresh, KeepsHeld, cost_word};
+ghost use Rattle.cert_text.specs.Rows.{Reads, Keeps, cost_word};
+ghost use Rattle.cert_text.specs.Stretches.{rows_of, entries_of};
 
 use crate::fault::Rule;
 use crate::reader::Reader;
+use crate::stretches::Stretches;
 use crate::words::Words;
 use cost_tables::{Cost, Tables};
 use line_texts::{Fault, LineFault};
@@ -105,30 +107,16 @@ fn column_words(
     entries(words, row)
 }
 
-// Puts a row into the tables, for stretches whose first state is in work.
-pub(crate) fn put_fresh(k: u8, m: u32, row: &[Cost], tables: &mut Tables)
+// Puts a row of level k and m free slots into the tables, for such stretches.
+pub(crate) fn put_row(stretches: Stretches, k: u8, m: u32, row: &[Cost], tables: &mut Tables)
     requires k { k < length tables.old.rooms }
-    requires m { m ≤ slice_index_or tables.old.rooms k 0 }
+    requires m { m < rows_of stretches tables.old k }
     requires row { length row.now ≡ tables.old.steps }
-    ensures keeps { KeepsFresh (λ i n. (i ≡ k) × (n ≡ m)) tables.old tables.new }
-    ensures entries { (i : ℕ) → i < length row.now → (tables_in tables.new).fresh k (i + 1) m ≡ value_of (slice_index_or row.now i Cost.Never) }
+    ensures keeps { Keeps stretches (λ i j n. (i ≡ k) × (n ≡ m)) tables.old tables.new }
+    ensures entries { (i : ℕ) → i < length row.now → entries_of stretches tables.new k m (i + 1) ≡ value_of (slice_index_or row.now i Cost.Never) }
 {
     let steps = tables.steps();
     for i in 0..steps {
-        tables.set_fresh(k, i + 1, m, row[i as usize]);
-    }
-}
-
-// Sets a row of entries for stretches whose first state is held on the level.
-pub(crate) fn put_held(k: u8, m: u32, row: &[Cost], tables: &mut Tables)
-    requires k { k < length tables.old.rooms }
-    requires m { m < slice_index_or tables.old.rooms k 0 }
-    requires row { length row.now ≡ tables.old.steps }
-    ensures keeps { KeepsHeld (λ i n. (i ≡ k) × (n ≡ m)) tables.old tables.new }
-    ensures entries { (i : ℕ) → i < length row.now → (tables_in tables.new).held k (i + 1) m ≡ value_of (slice_index_or row.now i Cost.Never) }
-{
-    let steps = tables.steps();
-    for i in 0..steps {
-        tables.set_held(k, i + 1, m, row[i as usize]);
+        stretches.set(tables, k, i + 1, m, row[i as usize]);
     }
 }

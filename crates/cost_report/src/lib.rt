@@ -5,4 +5,5 @@
 mod lines;
 mod reporting;
 
+pub use crate::lines::push_count;
 pub use crate::reporting::report;

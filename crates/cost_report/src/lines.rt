@@ -11,10 +11,8 @@ use plan_types::Line;
 // Writes a line that has a word and a count.
 pub(crate) fn write_count<O: Sink>(word: &[u8], n: u64, out: &mut O) -> Result<(), SinkFault>
     requires { length word.now ≤ 60 }
-    ensures ok { OnOk result (AddsLines (count_line word.now n ∷ []) (seen O.told O.call_count O.fault_count out.old)
-        (seen O.told O.call_count O.fault_count out.new)) }
-    ensures stopped { OnErr result (StopsIn (count_line word.now n ∷ []) (seen O.told O.call_count O.fault_count out.old)
-        (seen O.told O.call_count O.fault_count out.new)) }
+    ensures ok { OnOk result (AddsLines (count_line word.now n ∷ []) (seen O.Sink out.old) (seen O.Sink out.new)) }
+    ensures stopped { OnErr result (StopsIn (count_line word.now n ∷ []) (seen O.Sink out.old) (seen O.Sink out.new)) }
 {
     let mut line = Line::new();
     push_count(&mut line, word, n);
@@ -29,10 +27,8 @@ pub(crate) fn write_level<O: Sink>(
     out: &mut O,
 ) -> Result<(), SinkFault>
     requires { k < 4 }
-    ensures ok { OnOk result (AddsLines (level_line counts.now (k, level.now) ∷ []) (seen O.told O.call_count O.fault_count out.old)
-        (seen O.told O.call_count O.fault_count out.new)) }
-    ensures stopped { OnErr result (StopsIn (level_line counts.now (k, level.now) ∷ []) (seen O.told O.call_count O.fault_count out.old)
-        (seen O.told O.call_count O.fault_count out.new)) }
+    ensures ok { OnOk result (AddsLines (level_line counts.now (k, level.now) ∷ []) (seen O.Sink out.old) (seen O.Sink out.new)) }
+    ensures stopped { OnErr result (StopsIn (level_line counts.now (k, level.now) ∷ []) (seen O.Sink out.old) (seen O.Sink out.new)) }
 {
     let mut line = Line::new();
     line.push(level.name.bytes());
@@ -41,9 +37,9 @@ pub(crate) fn write_level<O: Sink>(
     end_line(line, out)
 }
 
-// Adds a word and a count to a line.
-fn push_count(line: &mut Line, word: &[u8], n: u64)
-    requires { length line.old + length word.now ≤ 60 }
+/// Adds a word and a count to a line.
+pub fn push_count(line: &mut Line, word: &[u8], n: u64)
+    requires { length line.old + length word.now ≤ 400 }
     ensures text { line.new ≡ line.old ++ word.now ++ decimal n }
     ensures short { length line.new ≤ length line.old + length word.now + 20 }
 {
@@ -54,10 +50,8 @@ fn push_count(line: &mut Line, word: &[u8], n: u64)
 // Writes a line and its end, in one write.
 fn end_line<O: Sink>(mut line: Line, out: &mut O) -> Result<(), SinkFault>
     requires { length line ≤ 80 }
-    ensures ok { OnOk result (AddsLines ((line ++ 10 ∷ []) ∷ []) (seen O.told O.call_count O.fault_count out.old)
-        (seen O.told O.call_count O.fault_count out.new)) }
-    ensures stopped { OnErr result (StopsIn ((line ++ 10 ∷ []) ∷ []) (seen O.told O.call_count O.fault_count out.old)
-        (seen O.told O.call_count O.fault_count out.new)) }
+    ensures ok { OnOk result (AddsLines ((line ++ 10 ∷ []) ∷ []) (seen O.Sink out.old) (seen O.Sink out.new)) }
+    ensures stopped { OnErr result (StopsIn ((line ++ 10 ∷ []) ∷ []) (seen O.Sink out.old) (seen O.Sink out.new)) }
 {
     line.push(b"\n");
     out.write(line.bytes())

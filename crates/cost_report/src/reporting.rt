@@ -15,8 +15,7 @@ pub fn report<O: Sink>(counts: &Counts, book: &Book, out: &mut O) -> Result<(), 
     ensures calls { OnOk result (O.call_count out.new ≡ raised (O.call_count out.old) (length (report_lines book.now counts.now))) }
 
     // If a write fails, the lines before it were added.
-    ensures stopped { OnErr result (StopsIn (report_lines book.now counts.now) (seen O.told O.call_count O.fault_count out.old)
-        (seen O.told O.call_count O.fault_count out.new)) }
+    ensures stopped { OnErr result (StopsIn (report_lines book.now counts.now) (seen O.Sink out.old) (seen O.Sink out.new)) }
 
     // A fault is returned only if the output counts one.
     ensures quiet { OnOk result (O.fault_count out.new ≡ O.fault_count out.old) }
@@ -29,10 +28,8 @@ pub fn report<O: Sink>(counts: &Counts, book: &Book, out: &mut O) -> Result<(), 
 
 // Writes the lines of the steps.
 fn write_steps<O: Sink>(counts: &Counts, out: &mut O) -> Result<(), SinkFault>
-    ensures ok { OnOk result (AddsLines (step_lines counts.now) (seen O.told O.call_count O.fault_count out.old)
-        (seen O.told O.call_count O.fault_count out.new)) }
-    ensures stopped { OnErr result (StopsIn (step_lines counts.now) (seen O.told O.call_count O.fault_count out.old)
-        (seen O.told O.call_count O.fault_count out.new)) }
+    ensures ok { OnOk result (AddsLines (step_lines counts.now) (seen O.Sink out.old) (seen O.Sink out.new)) }
+    ensures stopped { OnErr result (StopsIn (step_lines counts.now) (seen O.Sink out.old) (seen O.Sink out.new)) }
 {
     write_count(b"forward ", counts.forward, out)?;
     write_count(b"taped ", counts.taped, out)?;
@@ -41,10 +38,8 @@ fn write_steps<O: Sink>(counts: &Counts, out: &mut O) -> Result<(), SinkFault>
 
 // Writes the lines of the levels.
 fn write_levels<O: Sink>(counts: &Counts, book: &Book, out: &mut O) -> Result<(), SinkFault>
-    ensures ok { OnOk result (AddsLines (level_lines book.now counts.now) (seen O.told O.call_count O.fault_count out.old)
-        (seen O.told O.call_count O.fault_count out.new)) }
-    ensures stopped { OnErr result (StopsIn (level_lines book.now counts.now) (seen O.told O.call_count O.fault_count out.old)
-        (seen O.told O.call_count O.fault_count out.new)) }
+    ensures ok { OnOk result (AddsLines (level_lines book.now counts.now) (seen O.Sink out.old) (seen O.Sink out.new)) }
+    ensures stopped { OnErr result (StopsIn (level_lines book.now counts.now) (seen O.Sink out.old) (seen O.Sink out.new)) }
 {
     for k in 0..book.levels() {
         write_level(k, book.level(k), counts, out)?;

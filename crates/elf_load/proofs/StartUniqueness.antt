@@ -1,7 +1,7 @@
 -- A program has one list of mapped pages, one start state and one first fault.
 use Rattle.std.proofs.Common.{◌≡◌, ℕ, ◌<◌, ◌≤◌, ◌⊎◌, inl, inr, Result, Ok, Err, List, length, refl, sym, ap, subst, ◌∙◌, arith}
 use Rattle.std.proofs.lemmas.Bool.{cases_order}
-use Rattle.std.specs.Prelude.{MatchResult, IfOk, IfErr}
+use Rattle.std.specs.Prelude.{IfOk, IfErr}
 use Rattle.rv_machine.specs.MachineState.{MachineState}
 use Rattle.elf_load.specs.declared.fault.ElfFault.{ElfFault}
 use Rattle.elf_load.specs.declared.fault.ElfFault.TheVariants.{NotElf, Class, Kind, Machine, Headers, Segment, Overlap, TooLarge, Entry, Memory, RawLength}
@@ -9,6 +9,7 @@ use Rattle.elf_load.specs.Program.{Piece, AreMapped, IsStart, memory_of, start_a
 use Rattle.elf_load.specs.Raw.{AreWords, raw_pieces}
 use Rattle.elf_load.specs.Elf.{IsProgram, pieces, e_entry}
 use Rattle.elf_load.specs.Faults.{FirstRawFault, IsMet, IsMissed, AreTooMany, number_of}
+use Rattle.elf_load.specs.Loading.{Loads}
 use Rattle.elf_load.specs.Laws.{OneStart, OneFault, ProgramsHaveNoFault, OneRawStart, OneRawFault, RawProgramsHaveNoFault}
 use Rattle.elf_load.proofs.Lists.{same_rising, rises_from_increasing}
 
@@ -123,10 +124,16 @@ raw_programs_have_no_fault bytes stack s (TooLarge n) h g =
 raw_programs_have_no_fault bytes stack s fault h g = g
 
 -- what follows for an answer that is a start state, or a fault, or want of memory
-pub only_start : (P : MachineState → Type 0) (F : ElfFault → Type 0) → ((s t : MachineState) → P s → P t → s ≡ t) → ((s : MachineState) (fault : ElfFault) → P s → F fault → ⊥) → (r : Result MachineState ElfFault) → IfOk r P → IfErr r (λ fault. (fault ≡ Memory) ⊎ F fault) → (s : MachineState) → P s → MatchResult r (λ state. state ≡ s) (λ fault. fault ≡ Memory)
-only_start P F one none (Ok t) found refused s h = one t s found h
-only_start P F one none (Err d) found refused s h = elim refused [ inl e ↦ e | inr f ↦ absurd (none s d h f) ]
-
-pub only_fault : (P : MachineState → Type 0) (F : ElfFault → Type 0) → ((a b : ElfFault) → F a → F b → a ≡ b) → ((s : MachineState) (fault : ElfFault) → P s → F fault → ⊥) → (r : Result MachineState ElfFault) → IfOk r P → IfErr r (λ fault. (fault ≡ Memory) ⊎ F fault) → (fault : ElfFault) → F fault → MatchResult r (λ _. ⊥) (λ answer. (answer ≡ fault) ⊎ (answer ≡ Memory))
-only_fault P F one none (Ok t) found refused fault f = none t fault found f
-only_fault P F one none (Err d) found refused fault f = elim refused [ inl e ↦ inr e | inr g ↦ inl (one d fault g f) ]
+pub loads : (P : MachineState → Type 0) (F : ElfFault → Type 0) → ((s t : MachineState) → P s → P t → s ≡ t) → ((a b : ElfFault) → F a → F b → a ≡ b) → ((s : MachineState) (fault : ElfFault) → P s → F fault → ⊥) → (r : Result MachineState ElfFault) → IfOk r P → IfErr r (λ fault. (fault ≡ Memory) ⊎ F fault) → Loads P F r
+loads P F one first none (Ok t) found refused = record {
+  found = found;
+  only = λ s h. one t s found h;
+  refused = tt;
+  first = λ fault f. none t fault found f;
+}
+loads P F one first none (Err d) found refused = record {
+  found = tt;
+  only = λ s h. elim refused [ inl e ↦ e | inr f ↦ absurd (none s d h f) ];
+  refused = λ other. elim refused [ inl e ↦ absurd (other e) | inr f ↦ f ];
+  first = λ fault f. elim refused [ inl e ↦ inr e | inr g ↦ inl (first d fault g f) ];
+}

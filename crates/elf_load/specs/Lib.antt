@@ -3,6 +3,7 @@ pub mod Raw
 pub mod Elf
 pub mod Faults
 pub mod Start
+pub mod Loading
 pub mod Laws
 pub mod HeaderFields
 pub mod Spans

@@ -8,6 +8,7 @@ ghost use Rattle.elf_load.specs.Raw.{IsRawProgram};
 ghost use Rattle.elf_load.specs.Elf.{IsProgram};
 ghost use Rattle.elf_load.specs.Faults.{FirstFault, FirstRawFault};
 ghost use Rattle.elf_load.specs.Start.{IsStartOf, HasProgramFault};
+ghost use Rattle.elf_load.specs.Loading.{Loads};
 ghost use Rattle.elf_load.specs.HeaderFields.{segment_at, piece_in, AreApart, IsPagesFault};
 ghost use Rattle.elf_load.specs.Spans.{pages_from};
 
@@ -38,15 +39,7 @@ const STACK_POINTER: u32 = 0xbfff_fff0;
 pub fn load(alloc: Global, file: &[u8], stack: u32) -> Result<State, ElfFault>
     requires some { 1 ≤ stack }
     requires few { stack ≤ 1024 }
-
-    // The state that is loaded is the program's start state. A program is loaded, unless memory runs out.
-    ensures found { IfOk result (IsProgram file.now stack) }
-    ensures only { (s : MachineState) → IsProgram file.now stack s → MatchResult result (λ state. state ≡ s) (λ fault. fault ≡ ElfFault.Memory) }
-
-    // A refusal has the first fault. Bytes with a fault are refused for it, unless memory runs out.
-    ensures refused { IfErr result (λ fault. fault ≢ ElfFault.Memory → FirstFault file.now stack fault) }
-    ensures first { (fault : ElfFault) → FirstFault file.now stack fault →
-        MatchResult result (λ _. ⊥) (λ answer. (answer ≡ fault) ⊎ (answer ≡ ElfFault.Memory)) }
+    ensures { Loads (IsProgram file.now stack) (FirstFault file.now stack) result }
 {
     load_file(alloc, file, stack)
 }
@@ -56,15 +49,7 @@ pub fn load(alloc: Global, file: &[u8], stack: u32) -> Result<State, ElfFault>
 pub fn load_raw(alloc: Global, bytes: &[u8], stack: u32) -> Result<State, ElfFault>
     requires some { 1 ≤ stack }
     requires few { stack ≤ 1024 }
-
-    // The state that is loaded is the program's start state. A program is loaded, unless memory runs out.
-    ensures found { IfOk result (IsRawProgram bytes.now stack) }
-    ensures only { (s : MachineState) → IsRawProgram bytes.now stack s → MatchResult result (λ state. state ≡ s) (λ fault. fault ≡ ElfFault.Memory) }
-
-    // A refusal has the first fault. Bytes with a fault are refused for it, unless memory runs out.
-    ensures refused { IfErr result (λ fault. fault ≢ ElfFault.Memory → FirstRawFault bytes.now stack fault) }
-    ensures first { (fault : ElfFault) → FirstRawFault bytes.now stack fault →
-        MatchResult result (λ _. ⊥) (λ answer. (answer ≡ fault) ⊎ (answer ≡ ElfFault.Memory)) }
+    ensures { Loads (IsRawProgram bytes.now stack) (FirstRawFault bytes.now stack) result }
 {
     load_words(alloc, bytes, stack)
 }

@@ -16,23 +16,20 @@ mod case;
 mod reply;
 
 use case::{Case, case_of};
-use case_files::{Cases, Difference, Inputs, exit_code, run_files};
+use case_files::{Cases, Difference, Inputs, arguments, exit_code, run_files};
 use rv_machine::Steps;
 use serde_json::Value;
 use std::alloc::{AllocError, Global};
 use std::marker::Brand;
 use std::process::ExitCode;
 use std::sync::ledger::{Blank, Ledger};
-use std::{env, io};
-
-fn main(rt: HostRuntime) -> ExitCode {
-    exit_code(run(&rt))
-}
 
 // Runs the sessions of the files that the arguments name.
-fn run(rt: &HostRuntime) -> io::Result<bool> {
-    let words = env::args(rt)?.skip(1).collect::<Vec<String>>(rt.alloc())?;
-    run_files(rt, &Sessions, words.as_slice())
+fn main(rt: HostRuntime) -> ExitCode {
+    match arguments(&rt) {
+        Ok(words) => exit_code(run_files(&rt, &Sessions, words.as_slice())),
+        Err(_) => ExitCode::FAILURE,
+    }
 }
 
 #[derive(Clone, Copy)]

@@ -3,6 +3,7 @@ ghost use Rattle.std.specs.Prelude.{◌≡◌, ◌≤◌, ◌<◌, ℕ, [], take
 ghost use Rattle.keepers.specs.Prelude.{Rose, Tells, WhereTold};
 ghost use Rattle.gdb_line.specs.Talk.{Talk, Comes, Goes, GoesPartly};
 
+use keepers::SinkFault;
 use thiserror::Error;
 
 /// Why a line can't be used.
@@ -11,6 +12,12 @@ pub enum LineFault {
     /// Receiving or sending failed.
     #[error("the line can't be used")]
     Failed,
+}
+
+impl From<SinkFault> for LineFault {
+    fn from(_fault: SinkFault) -> Self {
+        Self::Failed
+    }
 }
 
 /// Bytes come in on it, and bytes go out.

@@ -1,9 +1,9 @@
 // A line in memory.
-ghost use Rattle.std.specs.Prelude.{◌≡◌, ◌≤◌, ◌<◌, ◌+◌, ◌↔◌, [], length, take, Contains, IfOk, IsOk, OnOk, OnErr};
-ghost use Rattle.keepers.specs.Prelude.{raised};
+ghost use Rattle.std.specs.Prelude.{◌≡◌, ◌≤◌, ◌<◌, [], length, take, IfOk};
 ghost use Rattle.gdb_line.specs.Talk.{Comes};
 
 use crate::line::{Line, LineFault};
+use keepers::{MemorySink, Sink};
 use std::alloc::{AllocError, Global};
 use std::marker::Model;
 
@@ -14,30 +14,26 @@ pub struct MemoryLine {
     bytes: Vec<u8>,
     taken: usize,
     most: usize,
-    went: Vec<u8>,
-    room: u32,
-    failing: Vec<u64>,
-    calls: u64,
-    faults: u64,
+    out: MemorySink,
 }
 
 impl Model for MemoryLine {
     ghost use Rattle.std.specs.Prelude.{◌≤◌, ◌<◌, take, drop};
-    ghost use Rattle.std.specs.Vec.{vec_len, vec_capacity};
+    ghost use Rattle.std.specs.Vec.{vec_len};
     ghost use Rattle.gdb_line.specs.LineState.{LineState};
 
     ghost Value = { LineState };
 
     ghost view = { λ l. record {
-      talk = record { came = take l.taken l.bytes.items; left = drop l.taken l.bytes.items; went = l.went.items };
+      talk = record { came = take l.taken l.bytes.items; left = drop l.taken l.bytes.items; went = l.out.bytes };
       most = l.most;
-      room = l.room;
-      failing = l.failing.items;
-      calls = l.calls;
-      faults = l.faults;
+      room = l.out.room;
+      failing = l.out.failing;
+      calls = l.out.calls;
+      faults = l.out.faults;
     } };
 
-    ghost invariant = { λ l. (l.taken ≤ vec_len l.bytes) × (0 < l.most) × (vec_len l.went ≤ l.room) × (l.room ≤ vec_capacity l.went) };
+    ghost invariant = { λ l. (l.taken ≤ vec_len l.bytes) × (0 < l.most) };
 }
 
 impl MemoryLine {
@@ -62,11 +58,7 @@ impl MemoryLine {
             bytes,
             taken: 0,
             most,
-            went: Vec::with_capacity(alloc, room as usize)?,
-            room,
-            failing: Vec::new(alloc),
-            calls: 0,
-            faults: 0,
+            out: MemorySink::new(alloc, room)?,
         })
     }
 
@@ -75,7 +67,7 @@ impl MemoryLine {
         ensures { result ≡ record self { failing = list.items } }
     {
         MemoryLine {
-            failing: list,
+            out: self.out.failing(list),
             ..self
         }
     }
@@ -84,21 +76,7 @@ impl MemoryLine {
     pub fn went(&self) -> &[u8]
         ensures { result.now ≡ self.now.talk.went }
     {
-        self.went.as_slice()
-    }
-
-    // Counts a call, and fails if it is to fail.
-    fn begin_call(&mut self) -> Result<(), LineFault>
-        ensures taken { IsOk result ↔ (Contains self.old.failing (raised self.old.calls 1) → ⊥) }
-        ensures ok { OnOk result (self.new ≡ record self.old { calls = raised self.old.calls 1 }) }
-        ensures refused { OnErr result (self.new ≡ record self.old { calls = raised self.old.calls 1; faults = raised self.old.faults 1 }) }
-    {
-        self.calls = self.calls.saturating_add(1);
-        if self.failing.contains(&self.calls) {
-            self.faults = self.faults.saturating_add(1);
-            return Err(LineFault::Failed);
-        }
-        Ok(())
+        self.out.bytes()
     }
 
     // Takes as many bytes as come at once and fit into the room.
@@ -123,22 +101,16 @@ impl Line for MemoryLine {
     ghost fault_count = { λ l. l.faults };
 
     fn receive(&mut self, room: &mut [u8]) -> Result<usize, LineFault> {
-        self.begin_call()?;
+        self.out.begin_call()?;
         Ok(self.take_piece(room))
     }
 
     fn look(&mut self, room: &mut [u8]) -> Result<usize, LineFault> {
-        self.begin_call()?;
+        self.out.begin_call()?;
         Ok(self.take_piece(room))
     }
 
     fn send(&mut self, piece: &[u8]) -> Result<(), LineFault> {
-        self.begin_call()?;
-        if piece.len() > self.room as usize - self.went.len() {
-            self.faults = self.faults.saturating_add(1);
-            return Err(LineFault::Failed);
-        }
-        self.went.extend_from_slice(piece).unwrap();
-        Ok(())
+        Ok(self.out.write(piece)?)
     }
 }

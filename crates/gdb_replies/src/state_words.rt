@@ -6,66 +6,56 @@ ghost use Rattle.gdb_replies.specs.StateWords.{hexadecimal, status_words, place_
 use plan_types::Line;
 use rv_machine::{State, Status};
 use state_image::{image_digest, line_front, push_digest};
-use std::alloc::{AllocError, Global};
+use std::alloc::AllocError;
 
 /// Adds a number in hexadecimal digits. If memory runs out, it may have added a part.
-pub fn push_hexadecimal(alloc: Global, out: &mut Vec<u8>, n: u32) -> Result<(), AllocError>
+pub fn push_hexadecimal(out: &mut Vec<u8>, n: u32) -> Result<(), AllocError>
     ensures { OnOk result (out.new.items ≡ out.old.items ++ hexadecimal n) }
 {
-    let digits = format!(in alloc; "{n:x}")?;
+    let digits = format!(in *out.allocator(); "{n:x}")?;
     out.extend_from_slice(digits.as_bytes())
 }
 
 /// Adds a line with the number of a state, its pc, and whether it runs. If memory runs out, it may have added a part.
-pub fn push_place_line(
-    alloc: Global,
-    out: &mut Vec<u8>,
-    n: u32,
-    state: &State,
-) -> Result<(), AllocError>
+pub fn push_place_line(out: &mut Vec<u8>, n: u32, state: &State) -> Result<(), AllocError>
     ensures { OnOk result (out.new.items ≡ out.old.items ++ place_line n state.now) }
 {
     let pc = state.pc;
-    let front = format!(in alloc; "state {n}, pc 0x{pc:x}")?;
+    let front = format!(in *out.allocator(); "state {n}, pc 0x{pc:x}")?;
     out.extend_from_slice(front.as_bytes())?;
-    push_status(alloc, out, state.status)?;
+    push_status(out, state.status)?;
     Ok(out.push(b'\n')?)
 }
 
 // Adds how a program ended, if it has.
-fn push_status(alloc: Global, out: &mut Vec<u8>, status: Status) -> Result<(), AllocError>
+fn push_status(out: &mut Vec<u8>, status: Status) -> Result<(), AllocError>
     ensures { OnOk result (out.new.items ≡ out.old.items ++ status_words status) }
 {
     match status {
         Status::Running => Ok(()),
         Status::Exited(code) => {
-            let text = format!(in alloc; ", exit {code}")?;
+            let text = format!(in *out.allocator(); ", exit {code}")?;
             out.extend_from_slice(text.as_bytes())
         }
         Status::Trapped(cause) => {
-            let text = format!(in alloc; ", trap {cause}")?;
+            let text = format!(in *out.allocator(); ", trap {cause}")?;
             out.extend_from_slice(text.as_bytes())
         }
     }
 }
 
 /// Adds a line with the reason why a run ends at a state. If memory runs out, it may have added a part.
-pub fn push_ending_line(
-    alloc: Global,
-    out: &mut Vec<u8>,
-    n: u32,
-    state: &State,
-) -> Result<(), AllocError>
+pub fn push_ending_line(out: &mut Vec<u8>, n: u32, state: &State) -> Result<(), AllocError>
     ensures { OnOk result (out.new.items ≡ out.old.items ++ ending_line n state.now) }
 {
     out.extend_from_slice(b"reversal: ")?;
-    push_ending(alloc, out, state.status)?;
-    let back = format!(in alloc; " (state {n})\n")?;
+    push_ending(out, state.status)?;
+    let back = format!(in *out.allocator(); " (state {n})\n")?;
     out.extend_from_slice(back.as_bytes())
 }
 
 // Adds why a run ends.
-fn push_ending(alloc: Global, out: &mut Vec<u8>, status: Status) -> Result<(), AllocError>
+fn push_ending(out: &mut Vec<u8>, status: Status) -> Result<(), AllocError>
     ensures { OnOk result (out.new.items ≡ out.old.items ++ ending_words status) }
 {
     match status {
@@ -73,7 +63,7 @@ fn push_ending(alloc: Global, out: &mut Vec<u8>, status: Status) -> Result<(), A
             b"the program still runs, and the run may have no more steps",
         ),
         Status::Exited(code) => {
-            let text = format!(in alloc; "the program exited with code {code}")?;
+            let text = format!(in *out.allocator(); "the program exited with code {code}")?;
             out.extend_from_slice(text.as_bytes())
         }
         Status::Trapped(cause) => {

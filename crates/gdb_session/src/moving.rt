@@ -277,7 +277,7 @@ impl Server {
         match halt {
             Halt::AtEnd => {
                 let mut line = Vec::new(self.alloc);
-                self.session.push_ending(self.alloc, &mut line)?;
+                self.session.push_ending(&mut line)?;
                 self.push_console(line.as_slice())
             }
             Halt::AtPlace | Halt::AtWrite(_) | Halt::AtBeginning | Halt::Interrupted => Ok(()),
@@ -291,7 +291,7 @@ impl Server {
         ensures same { SaysReply self.old self.new }
     {
         self.text.clear();
-        self.session.push_halt(self.alloc, halt, &mut self.text)?;
+        self.session.push_halt(halt, &mut self.text)?;
         self.push_reply()
     }
 }

@@ -156,8 +156,7 @@ impl Server {
                 Ok(true)
             }
             _ => {
-                self.session
-                    .answer(self.alloc, &request, &mut self.text, steps)?;
+                self.session.answer(&request, &mut self.text, steps)?;
                 self.push_reply()?;
                 self.send(line)?;
                 let detached = matches!(request, Request::Detach);

@@ -7,7 +7,7 @@ ghost use Rattle.run_timeline.specs.Prelude.{CameBack, CameOn, EndsBackward, End
 ghost use Rattle.gdb_replies.specs.declared.command.Command.{Command};
 ghost use Rattle.gdb_replies.specs.Prelude.{IsCommand, ending_line, hexadecimal, place_line};
 ghost use Rattle.gdb_session.specs.Answers.{Answers, GoesTo, Obeys, piece_text, shown_text};
-ghost use Rattle.gdb_session.specs.Debugger.{new_debugger, shown as shown_state, inserted, removed, same_address, same_range, with_one, without_one};
+ghost use Rattle.gdb_session.specs.Debugger.{new_debugger, shown as shown_state, inserted, removed, with_one, without_one};
 ghost use Rattle.gdb_session.specs.declared.halt.Halt.TheVariants.{AtWrite};
 ghost use Rattle.gdb_session.specs.Moves.{halt_text, output_from};
 ghost use Rattle.gdb_session.specs.SessionFields.{CameHere, IsAnswered};
@@ -201,24 +201,19 @@ impl Session {
     }
 
     /// Adds why the run ends at the shown state.
-    pub(crate) fn push_ending(&self, alloc: Global, text: &mut Vec<u8>) -> Result<(), AllocError>
+    pub(crate) fn push_ending(&self, text: &mut Vec<u8>) -> Result<(), AllocError>
         ensures { OnOk result (text.new.items ≡ text.old.items ++ ending_line self.now.place (shown_state self.now)) }
     {
-        push_ending_line(alloc, text, self.timeline.place(), self.state())
+        push_ending_line(text, self.timeline.place(), self.state())
     }
 
     /// Adds why a move stopped.
-    pub(crate) fn push_halt(
-        &self,
-        alloc: Global,
-        halt: Halt,
-        text: &mut Vec<u8>,
-    ) -> Result<(), AllocError>
+    pub(crate) fn push_halt(&self, halt: Halt, text: &mut Vec<u8>) -> Result<(), AllocError>
         ensures { OnOk result (text.new.items ≡ text.old.items ++ halt_text self.now.stops.ranges halt) }
     {
         match halt {
             Halt::AtPlace => text.extend_from_slice(b"T05"),
-            Halt::AtWrite(index) => self.push_watch(alloc, index, text),
+            Halt::AtWrite(index) => self.push_watch(index, text),
             Halt::AtBeginning => text.extend_from_slice(b"T05replaylog:begin;"),
             Halt::AtEnd => text.extend_from_slice(b"T05replaylog:end;"),
             Halt::Interrupted => text.extend_from_slice(b"T02"),
@@ -226,20 +221,20 @@ impl Session {
     }
 
     // Adds that a move stopped at a watched range.
-    fn push_watch(&self, alloc: Global, index: usize, text: &mut Vec<u8>) -> Result<(), AllocError>
+    fn push_watch(&self, index: usize, text: &mut Vec<u8>) -> Result<(), AllocError>
         ensures { OnOk result (text.new.items ≡ text.old.items ++ halt_text self.now.stops.ranges (AtWrite index)) }
     {
         text.extend_from_slice(b"T05watch:")?;
-        self.push_start(alloc, index, text)?;
+        self.push_start(index, text)?;
         text.extend_from_slice(b";")
     }
 
     // Adds where a watched range begins, if there is one with this index.
-    fn push_start(&self, alloc: Global, index: usize, text: &mut Vec<u8>) -> Result<(), AllocError>
+    fn push_start(&self, index: usize, text: &mut Vec<u8>) -> Result<(), AllocError>
         ensures { OnOk result (text.new.items ≡ text.old.items ++ option_map_or (λ range. hexadecimal range.start) (slice_get self.now.stops.ranges index) []) }
     {
         match self.stops.ranges.get(index) {
-            Some(range) => push_hexadecimal(alloc, text, range.start),
+            Some(range) => push_hexadecimal(text, range.start),
             None => Ok(()),
         }
     }
@@ -247,7 +242,6 @@ impl Session {
     /// Puts the text of the one reply packet into `text`, for a request that neither moves nor kills.
     pub(crate) fn answer<L: Ledger>(
         &mut self,
-        alloc: Global,
         request: &Request,
         text: &mut Vec<u8>,
         steps: &mut Steps<L>,
@@ -277,7 +271,7 @@ impl Session {
                 self.remove(*kind, *at, *len);
                 push_ok(text)
             }
-            Request::Monitor(command) => self.obey(alloc, command.as_bytes(), text, steps),
+            Request::Monitor(command) => self.obey(command.as_bytes(), text, steps),
             Request::Write => text.extend_from_slice(REFUSAL),
             Request::Attached => text.extend_from_slice(b"1"),
             Request::SetThread | Request::Detach => push_ok(text),
@@ -290,14 +284,8 @@ impl Session {
         ensures { OnOk result (self.new ≡ record self.old { stops = inserted kind at len self.old.stops }) }
     {
         match kind {
-            StopKind::Breakpoint => add_address(&mut self.stops.addresses, at),
-            StopKind::WriteWatch => {
-                let range = Range {
-                    start: at,
-                    length: len,
-                };
-                add_range(&mut self.stops.ranges, range)
-            }
+            StopKind::Breakpoint => add(&mut self.stops.addresses, at),
+            StopKind::WriteWatch => add(&mut self.stops.ranges, range(at, len)),
         }
     }
 
@@ -306,21 +294,14 @@ impl Session {
         ensures { self.new ≡ record self.old { stops = removed kind at len self.old.stops } }
     {
         match kind {
-            StopKind::Breakpoint => remove_address(&mut self.stops.addresses, at),
-            StopKind::WriteWatch => {
-                let range = Range {
-                    start: at,
-                    length: len,
-                };
-                remove_range(&mut self.stops.ranges, range);
-            }
+            StopKind::Breakpoint => remove(&mut self.stops.addresses, at),
+            StopKind::WriteWatch => remove(&mut self.stops.ranges, range(at, len)),
         }
     }
 
     // Does what a command says, and adds what is shown, in digits.
     fn obey<L: Ledger>(
         &mut self,
-        alloc: Global,
         command: &[u8],
         text: &mut Vec<u8>,
         steps: &mut Steps<L>,
@@ -328,8 +309,8 @@ impl Session {
         requires { text.old.items ≡ [] }
         ensures { OnOk result ((asked : Command) × IsCommand command.now asked × ((shown : List ℕ) × Obeys self.old asked self.new shown × (text.new.items ≡ shown_text shown))) }
     {
-        let mut shown = Vec::new(alloc);
-        self.perform(alloc, read_command(command), &mut shown, steps)?;
+        let mut shown = Vec::new(*text.allocator());
+        self.perform(read_command(command), &mut shown, steps)?;
         if shown.is_empty() {
             return push_ok(text);
         }
@@ -339,7 +320,6 @@ impl Session {
     // Does what a command says, and adds what is shown.
     fn perform<L: Ledger>(
         &mut self,
-        alloc: Global,
         command: Command,
         shown: &mut Vec<u8>,
         steps: &mut Steps<L>,
@@ -348,15 +328,15 @@ impl Session {
         ensures { OnOk result (Obeys self.old command self.new shown.new.items) }
     {
         match command {
-            Command::When => self.show_place(alloc, shown),
+            Command::When => self.show_place(shown),
             Command::Goto(n) => {
                 self.go_to(n, steps);
-                self.show_place(alloc, shown)
+                self.show_place(shown)
             }
             Command::End => {
                 let most = self.timeline.most();
                 self.go_to(most, steps);
-                self.show_place(alloc, shown)
+                self.show_place(shown)
             }
             Command::Line => push_state_line(shown, self.timeline.place(), self.state()),
             Command::Quiet(quiet) => {
@@ -380,45 +360,36 @@ impl Session {
     }
 
     // Adds the number of the state that is shown, its pc, and whether it runs.
-    fn show_place(&self, alloc: Global, shown: &mut Vec<u8>) -> Result<(), AllocError>
+    fn show_place(&self, shown: &mut Vec<u8>) -> Result<(), AllocError>
         ensures { OnOk result (shown.new.items ≡ shown.old.items ++ place_line self.now.place (shown_state self.now)) }
     {
-        push_place_line(alloc, shown, self.timeline.place(), self.state())
+        push_place_line(shown, self.timeline.place(), self.state())
     }
 }
 
-// Adds an address, if it isn't there.
-fn add_address(addresses: &mut Vec<u32>, at: u32) -> Result<(), AllocError>
-    ensures { OnOk result (addresses.new.items ≡ with_one same_address at addresses.old.items) }
+// So many bytes from an address on.
+fn range(start: u32, length: u32) -> Range
+    ensures { result ≡ record { start = start; length = length } }
 {
-    if addresses.contains(&at) {
+    Range { start, length }
+}
+
+// Adds one to a list, if it isn't there.
+fn add<T: Copy + PartialEq>(list: &mut Vec<T>, one: T) -> Result<(), AllocError>
+    ensures { OnOk result (list.new.items ≡ with_one (λ a b. T.eq b a) one list.old.items) }
+{
+    if list.contains(&one) {
         return Ok(());
     }
-    addresses.push(at)?;
+    list.push(one)?;
     Ok(())
 }
 
-// Adds a range, if it isn't there.
-fn add_range(ranges: &mut Vec<Range>, range: Range) -> Result<(), AllocError>
-    ensures { OnOk result (ranges.new.items ≡ with_one same_range range ranges.old.items) }
+// Removes one from a list, wherever it is there.
+fn remove<T: Copy + PartialEq>(list: &mut Vec<T>, one: T)
+    ensures { list.new.items ≡ without_one (λ a b. T.eq b a) one list.old.items }
 {
-    if ranges.contains(&range) {
-        return Ok(());
-    }
-    ranges.push(range)?;
-    Ok(())
-}
-
-fn remove_address(addresses: &mut Vec<u32>, at: u32)
-    ensures { addresses.new.items ≡ without_one same_address at addresses.old.items }
-{
-    addresses.retain(|a| *a != at);
-}
-
-fn remove_range(ranges: &mut Vec<Range>, range: Range)
-    ensures { ranges.new.items ≡ without_one same_range range ranges.old.items }
-{
-    ranges.retain(|other| *other != range);
+    list.retain(|other| *other != one);
 }
 
 fn push_ok(text: &mut Vec<u8>) -> Result<(), AllocError>

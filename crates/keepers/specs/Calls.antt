@@ -6,9 +6,13 @@ use Rattle.keepers.specs.Counts.{Rose, raised}
 use Rattle.keepers.specs.CallEffects.{Answer}
 use Rattle.keepers.specs.Claims.{Tells, WhereTold, image_in, SameButAt}
 use Rattle.keepers.specs.declared.keeper.KeepFault.TheVariants.{Failed, Memory}
+use Rattle.keepers.specs.declared.storage.CallCounts.{CallCounts}
 use Rattle.keepers.specs.declared.storage.Storage.{Ghosts}
 
 module _ {K : Type 0} (g : Ghosts K) where
+  abbrev pub counts_of : K → CallCounts
+  counts_of k = record { puts = g.put_count k; gets = g.get_count k; frees = g.free_count k; faults = g.fault_count k }
+
   -- one put was counted, and no other call
   pub record OnePut (old new : K) : Type 0 where
     pub puts : g.put_count new ≡ raised (g.put_count old) 1

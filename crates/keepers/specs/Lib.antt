@@ -1,5 +1,6 @@
 pub mod AnyKeeper
 pub mod Calls
+pub mod EitherKeeper
 pub mod Counts
 pub mod DiskFaults
 pub mod FailureList

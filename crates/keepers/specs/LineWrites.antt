@@ -3,6 +3,7 @@ use Rattle.std.specs.Prelude.{◌≡◌, ℕ, ◌+◌, List, ◌∷◌, ◌++◌
 use Rattle.std.specs.List.{concat}
 use Rattle.keepers.specs.Counts.{Rose, raised}
 use Rattle.keepers.specs.Claims.{Tells, AddsPrefix}
+use Rattle.keepers.specs.declared.sink.Sink.{Ghosts}
 
 -- a sink at one moment: its claimed bytes, its count of calls, and its count of faults
 pub record Seen : Type 0 where
@@ -10,8 +11,8 @@ pub record Seen : Type 0 where
   pub calls : ℕ
   pub faults : ℕ
 
-abbrev pub seen : {X : Type 0} → (X → Option (List ℕ)) → (X → ℕ) → (X → ℕ) → X → Seen
-seen told calls faults sink = record { told = told sink; calls = calls sink; faults = faults sink }
+abbrev pub seen : {X : Type 0} → Ghosts X → X → Seen
+seen g sink = record { told = g.told sink; calls = g.call_count sink; faults = g.fault_count sink }
 
 -- the lines were added, each in one write
 pub record AddsLines (lines : List (List ℕ)) (old new : Seen) : Type 0 where

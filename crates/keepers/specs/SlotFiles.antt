@@ -55,24 +55,24 @@ MayFail may_fail k slot = may_fail k.disk (path_of k slot) ⊎ NamesNoFolder (fo
 pub record IsFilePut {D : Type 0} (told : D → Option Files) (may_fail : D → List ℕ → Type 0) (slot : ℕ) (image : List ℕ) (answer : Answer) (old new : FileKeeper D) : Type 0 where
   pub written : OnOk answer (Tells (told old.disk) (told new.disk) (λ a b. b ≡ finmap.insert a (path_of old slot) image))
   pub others : OnErr answer (Tells (told old.disk) (told new.disk) (SameButNamed (path_of old slot)))
-  pub rest : new ≡ record old { disk = new.disk; puts = raised old.puts 1; faults = new.faults }
-  pub quiet : answer ≢ Err Failed → new.faults ≡ old.faults
-  pub counted : answer ≡ Err Failed → new.faults ≡ raised old.faults 1
+  pub rest : new ≡ record old { disk = new.disk; counts = record old.counts { puts = raised old.counts.puts 1; faults = new.counts.faults } }
+  pub quiet : answer ≢ Err Failed → new.counts.faults ≡ old.counts.faults
+  pub counted : answer ≡ Err Failed → new.counts.faults ≡ raised old.counts.faults 1
   pub cause : answer ≡ Err Failed → MayFail may_fail old slot
 
 -- a get, which gives these bytes: the first of this slot's file; no file changed
 pub record IsFileGet {D : Type 0} (told : D → Option Files) (may_fail : D → List ℕ → Type 0) (slot len : ℕ) (bytes : List ℕ) (answer : Answer) (old new : FileKeeper D) : Type 0 where
   pub ok : OnOk answer (WhereTold (told old.disk) (λ files. bytes ≡ take len (bytes_in files (path_of old slot))))
-  pub rest : new ≡ record old { gets = raised old.gets 1; faults = new.faults }
-  pub quiet : answer ≢ Err Failed → new.faults ≡ old.faults
-  pub counted : answer ≡ Err Failed → new.faults ≡ raised old.faults 1
+  pub rest : new ≡ record old { counts = record old.counts { gets = raised old.counts.gets 1; faults = new.counts.faults } }
+  pub quiet : answer ≢ Err Failed → new.counts.faults ≡ old.counts.faults
+  pub counted : answer ≡ Err Failed → new.counts.faults ≡ raised old.counts.faults 1
   pub cause : answer ≡ Err Failed → MayFail may_fail old slot
 
 -- a free: the file of this slot is gone, and no other file changed
 pub record IsFileFree {D : Type 0} (told : D → Option Files) (may_fail : D → List ℕ → Type 0) (slot : ℕ) (answer : Answer) (old new : FileKeeper D) : Type 0 where
   pub removed : OnOk answer (Tells (told old.disk) (told new.disk) (λ a b. b ≡ finmap.remove a (path_of old slot)))
   pub left : OnErr answer (Tells (told old.disk) (told new.disk) (λ a b. (b ≡ a) ⊎ (b ≡ finmap.remove a (path_of old slot))))
-  pub rest : new ≡ record old { disk = new.disk; frees = raised old.frees 1; faults = new.faults }
-  pub quiet : answer ≢ Err Failed → new.faults ≡ old.faults
-  pub counted : answer ≡ Err Failed → new.faults ≡ raised old.faults 1
+  pub rest : new ≡ record old { disk = new.disk; counts = record old.counts { frees = raised old.counts.frees 1; faults = new.counts.faults } }
+  pub quiet : answer ≢ Err Failed → new.counts.faults ≡ old.counts.faults
+  pub counted : answer ≡ Err Failed → new.counts.faults ≡ raised old.counts.faults 1
   pub cause : answer ≡ Err Failed → MayFail may_fail old slot

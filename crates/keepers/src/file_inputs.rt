@@ -8,7 +8,7 @@ ghost use Rattle.keepers.specs.ExternalState.{MayFailAt};
 ghost use Rattle.keepers.specs.Claims.{WhereTold, Begins, bytes_in};
 
 use crate::disk::Disk;
-use crate::faults::input_fault;
+use crate::faults::is_fault;
 use crate::inputs::{InputFault, Inputs, Whole};
 use crate::names::Names;
 use std::alloc::{AllocError, Global};
@@ -108,7 +108,8 @@ impl<D: Disk> Inputs for FileInputs<D> {
         }
         match self.read_path(name, limit, into) {
             Ok(whole) => Ok(whole),
-            Err(error) => Err(input_fault(&error, &mut self.faults)),
+            Err(error) if is_fault(&error, &mut self.faults) => Err(InputFault::Failed),
+            Err(_) => Err(InputFault::Memory),
         }
     }
 }

@@ -1,17 +1,17 @@
 // A keeper whose images are files.
-ghost use Rattle.std.specs.Prelude.{◌≡◌, ◌≢◌, ◌⊎◌, ◌<◌, ◌≤◌, take, IfOk, Err, OnOk, OnErr, string_bytes};
+ghost use Rattle.std.specs.Prelude.{◌≡◌, ◌⊎◌, ◌<◌, ◌≤◌, take, IfOk, OnOk, OnErr, string_bytes};
 ghost use Rattle.std.specs.Vec.{vec_len, vec_capacity};
 ghost use Rattle.std.specs.Option.{option_map};
 ghost use Rattle.std.specs.FinMap as finmap;
-ghost use Rattle.keepers.specs.Counts.{raised};
+ghost use Rattle.keepers.specs.Calls.{counts_of};
 ghost use Rattle.keepers.specs.DiskFaults.{FailsOnlyWhere, NamesNoFolder};
-ghost use Rattle.keepers.specs.SlotFiles.{folder_of, level_of, disk_of, path_of, level_images, images_told, MayFail};
+ghost use Rattle.keepers.specs.SlotFiles.{folder_of, level_of, disk_of, path_of, level_images, images_told, MayFail, IsFilePut, IsFileGet, IsFileFree};
 ghost use Rattle.keepers.specs.Claims.{Tells, WhereTold, SameButAt, SameButNamed, image_in, bytes_in};
 
 use crate::disk::Disk;
 use crate::faults::keep_fault;
 use crate::keeper::{KeepFault, Keeper};
-use crate::storage::Storage;
+use crate::storage::{CallCounts, Storage};
 use std::alloc::Global;
 use std::io;
 use std::io::ErrorKind;
@@ -28,10 +28,7 @@ pub struct FileKeeper<D> {
     folder: Vec<u8>,
     level: u8,
     slots: u32,
-    puts: u64,
-    gets: u64,
-    frees: u64,
-    faults: u64,
+    counts: CallCounts,
 }
 
 impl<D: Disk> FileKeeper<D> {
@@ -53,10 +50,7 @@ impl<D: Disk> FileKeeper<D> {
             folder,
             level,
             slots,
-            puts: 0,
-            gets: 0,
-            frees: 0,
-            faults: 0,
+            counts: CallCounts::NONE,
         }
     }
 
@@ -67,32 +61,11 @@ impl<D: Disk> FileKeeper<D> {
         &self.disk
     }
 
-    /// How often `put` was called, up to `u64::MAX`.
-    pub fn puts(&self) -> u64
-        ensures { result ≡ ⟦<FileKeeper<D> as Storage>⟧.put_count self.now }
+    /// How often it was called, and how often a call failed.
+    pub fn counts(&self) -> CallCounts
+        ensures { result ≡ counts_of ⟦<FileKeeper<D> as Storage>⟧ self.now }
     {
-        self.puts
-    }
-
-    /// How often `get` was called, up to `u64::MAX`.
-    pub fn gets(&self) -> u64
-        ensures { result ≡ ⟦<FileKeeper<D> as Storage>⟧.get_count self.now }
-    {
-        self.gets
-    }
-
-    /// How often `free` was called, up to `u64::MAX`.
-    pub fn frees(&self) -> u64
-        ensures { result ≡ ⟦<FileKeeper<D> as Storage>⟧.free_count self.now }
-    {
-        self.frees
-    }
-
-    /// How often a call failed, up to `u64::MAX`.
-    pub fn faults(&self) -> u64
-        ensures { result ≡ ⟦<FileKeeper<D> as Storage>⟧.fault_count self.now }
-    {
-        self.faults
+        self.counts
     }
 
     // The path of a slot's file.
@@ -163,13 +136,13 @@ impl<D: Disk> Storage for FileKeeper<D> {
 
     ghost slot_count = { λ k. k.slots };
 
-    ghost put_count = { λ k. k.puts };
+    ghost put_count = { λ k. k.counts.puts };
 
-    ghost get_count = { λ k. k.gets };
+    ghost get_count = { λ k. k.counts.gets };
 
-    ghost free_count = { λ k. k.frees };
+    ghost free_count = { λ k. k.counts.frees };
 
-    ghost fault_count = { λ k. k.faults };
+    ghost fault_count = { λ k. k.counts.faults };
 
     ghost room_bytes = { λ _. None };
 
@@ -178,7 +151,7 @@ impl<D: Disk> Storage for FileKeeper<D> {
 
 // Further clauses say what a call does to its files.
 impl<D: Disk> Keeper for FileKeeper<D> {
-    ghost use Rattle.keepers.specs.SlotFiles.{MayFail, IsFilePut, IsFileGet, IsFileFree};
+    ghost use Rattle.keepers.specs.SlotFiles.{IsFilePut, IsFileGet, IsFileFree};
 
     ghost put_does = { λ old slot image answer new. IsFilePut D.told D.may_fail slot image answer old new };
 
@@ -194,42 +167,32 @@ impl<D: Disk> Keeper for FileKeeper<D> {
         requires { slot < self.old.slots }
         ensures ok { OnOk result (Tells (images_told D.told self.old) (images_told D.told self.new) (λ old new. new ≡ finmap.insert old slot image.now)) }
         ensures refused { OnErr result (Tells (images_told D.told self.old) (images_told D.told self.new) (SameButAt slot)) }
-        ensures written { OnOk result (Tells (D.told self.old.disk) (D.told self.new.disk)
-            (λ old new. new ≡ finmap.insert old (path_of self.old slot) image.now)) }
-        ensures others { OnErr result (Tells (D.told self.old.disk) (D.told self.new.disk) (SameButNamed (path_of self.old slot))) }
-        ensures rest { self.new ≡ record self.old { disk = self.new.disk; puts = raised self.old.puts 1; faults = self.new.faults } }
-        ensures quiet { result ≢ Err KeepFault.Failed → self.new.faults ≡ self.old.faults }
-        ensures later { self.old.faults ≤ self.new.faults }
-        ensures counted { result ≡ Err KeepFault.Failed → self.new.faults ≡ raised self.old.faults 1 }
-        ensures cause { result ≡ Err KeepFault.Failed → MayFail D.may_fail self.old slot }
+        ensures later { self.old.counts.faults ≤ self.new.counts.faults }
+        ensures does { IsFilePut D.told D.may_fail slot image.now result self.old self.new }
     {
         let slots = self.slots;
         prove!(slot < slots);
-        self.puts = self.puts.saturating_add(1);
+        self.counts.puts = self.counts.puts.saturating_add(1);
         match self.put_file(slot, image) {
             Ok(()) => Ok(()),
-            Err(error) => Err(keep_fault(&error, &mut self.faults)),
+            Err(error) => Err(keep_fault(&error, &mut self.counts.faults)),
         }
     }
 
     fn get(&mut self, slot: u32, len: u32, into: &mut Vec<u8>) -> Result<(), KeepFault>
         requires { slot < self.old.slots }
         ensures ok { OnOk result (WhereTold (images_told D.told self.old) (λ old. into.new.items ≡ take len (image_in old slot))) }
-        ensures bytes { OnOk result (WhereTold (D.told self.old.disk) (λ files. into.new.items ≡ take len (bytes_in files (path_of self.old slot)))) }
         ensures short { OnOk result (vec_len into.new ≤ len) }
         ensures reserved { vec_capacity into.old ≤ vec_capacity into.new }
-        ensures rest { self.new ≡ record self.old { gets = raised self.old.gets 1; faults = self.new.faults } }
-        ensures quiet { result ≢ Err KeepFault.Failed → self.new.faults ≡ self.old.faults }
-        ensures later { self.old.faults ≤ self.new.faults }
-        ensures counted { result ≡ Err KeepFault.Failed → self.new.faults ≡ raised self.old.faults 1 }
-        ensures cause { result ≡ Err KeepFault.Failed → MayFail D.may_fail self.old slot }
+        ensures later { self.old.counts.faults ≤ self.new.counts.faults }
+        ensures does { IsFileGet D.told D.may_fail slot len into.new.items result self.old self.new }
     {
         let slots = self.slots;
         prove!(slot < slots);
-        self.gets = self.gets.saturating_add(1);
+        self.counts.gets = self.counts.gets.saturating_add(1);
         match self.get_file(slot, len, into) {
             Ok(()) => Ok(()),
-            Err(error) => Err(keep_fault(&error, &mut self.faults)),
+            Err(error) => Err(keep_fault(&error, &mut self.counts.faults)),
         }
     }
 
@@ -237,21 +200,15 @@ impl<D: Disk> Keeper for FileKeeper<D> {
         requires { slot < self.old.slots }
         ensures ok { OnOk result (Tells (images_told D.told self.old) (images_told D.told self.new) (λ old new. new ≡ finmap.remove old slot)) }
         ensures refused { OnErr result (Tells (images_told D.told self.old) (images_told D.told self.new) (λ old new. (new ≡ old) ⊎ (new ≡ finmap.remove old slot))) }
-        ensures removed { OnOk result (Tells (D.told self.old.disk) (D.told self.new.disk) (λ old new. new ≡ finmap.remove old (path_of self.old slot))) }
-        ensures left { OnErr result (Tells (D.told self.old.disk) (D.told self.new.disk) (λ old new. (new ≡ old)
-            ⊎ (new ≡ finmap.remove old (path_of self.old slot)))) }
-        ensures rest { self.new ≡ record self.old { disk = self.new.disk; frees = raised self.old.frees 1; faults = self.new.faults } }
-        ensures quiet { result ≢ Err KeepFault.Failed → self.new.faults ≡ self.old.faults }
-        ensures later { self.old.faults ≤ self.new.faults }
-        ensures counted { result ≡ Err KeepFault.Failed → self.new.faults ≡ raised self.old.faults 1 }
-        ensures cause { result ≡ Err KeepFault.Failed → MayFail D.may_fail self.old slot }
+        ensures later { self.old.counts.faults ≤ self.new.counts.faults }
+        ensures does { IsFileFree D.told D.may_fail slot result self.old self.new }
     {
         let slots = self.slots;
         prove!(slot < slots);
-        self.frees = self.frees.saturating_add(1);
+        self.counts.frees = self.counts.frees.saturating_add(1);
         match self.free_file(slot) {
             Ok(()) => Ok(()),
-            Err(error) => Err(keep_fault(&error, &mut self.faults)),
+            Err(error) => Err(keep_fault(&error, &mut self.counts.faults)),
         }
     }
 }

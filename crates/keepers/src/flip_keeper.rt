@@ -2,13 +2,14 @@
 ghost use Rattle.std.specs.Prelude.{◌≡◌, ◌≢◌, ◌<◌, ◌≤◌, [], take, None, Ok, Err, OnOk, OnErr};
 ghost use Rattle.std.specs.Vec.{vec_len, vec_capacity};
 ghost use Rattle.std.specs.FinMap as finmap;
+ghost use Rattle.keepers.specs.Calls.{counts_of};
 ghost use Rattle.keepers.specs.Counts.{raised};
 ghost use Rattle.keepers.specs.FlipState.{flipped, given};
 ghost use Rattle.keepers.specs.Claims.{image_in, SameButAt};
 
 use crate::keeper::{KeepFault, Keeper};
 use crate::memory_keeper::MemoryKeeper;
-use crate::storage::Storage;
+use crate::storage::{CallCounts, Storage};
 use std::alloc::Global;
 use std::marker::Model;
 
@@ -52,32 +53,11 @@ impl FlipKeeper {
         }
     }
 
-    /// How often `put` was called, up to `u64::MAX`.
-    pub fn puts(&self) -> u64
-        ensures { result ≡ self.now.keeper.puts }
+    /// How often it was called. The storage never fails.
+    pub fn counts(&self) -> CallCounts
+        ensures { result ≡ counts_of ⟦<FlipKeeper as Storage>⟧ self.now }
     {
-        self.keeper.puts()
-    }
-
-    /// How often `get` was called, up to `u64::MAX`.
-    pub fn gets(&self) -> u64
-        ensures { result ≡ self.now.keeper.gets }
-    {
-        self.keeper.gets()
-    }
-
-    /// How often `free` was called, up to `u64::MAX`.
-    pub fn frees(&self) -> u64
-        ensures { result ≡ self.now.keeper.frees }
-    {
-        self.keeper.frees()
-    }
-
-    /// How often the storage failed, which it never does.
-    pub fn faults(&self) -> u64
-        ensures { result ≡ self.now.keeper.faults }
-    {
-        self.keeper.faults()
+        self.keeper.counts()
     }
 }
 
@@ -141,7 +121,7 @@ impl Keeper for FlipKeeper {
         ensures quiet { result ≢ Err KeepFault.Failed }
     {
         self.keeper.get(slot, len, into)?;
-        if self.keeper.gets() == self.get {
+        if self.keeper.counts().gets == self.get {
             flip(into.as_mut_slice(), self.at as usize);
         }
         Ok(())

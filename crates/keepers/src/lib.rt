@@ -4,8 +4,9 @@
 //! only where the outside failed. `Claims`, `Counts` and `Calls` in `specs/` define this.
 #![tactic(auto)]
 
-mod any_keeper;
 mod disk;
+mod either_keeper;
+mod failing_calls;
 mod faults;
 mod file_inputs;
 mod file_keeper;
@@ -24,8 +25,8 @@ mod stdout_sink;
 mod storage;
 mod transfer;
 
-pub use crate::any_keeper::AnyKeeper;
 pub use crate::disk::{Disk, SystemDisk};
+pub use crate::either_keeper::{AnyKeeper, EitherKeeper};
 pub use crate::file_inputs::FileInputs;
 pub use crate::file_keeper::FileKeeper;
 pub use crate::flip_keeper::FlipKeeper;
@@ -38,4 +39,4 @@ pub use crate::memory_sink::MemorySink;
 pub use crate::output::Output;
 pub use crate::sink::{Sink, SinkFault};
 pub use crate::stdout_sink::StdoutSink;
-pub use crate::storage::Storage;
+pub use crate::storage::{CallCounts, Storage};

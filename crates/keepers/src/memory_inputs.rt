@@ -5,6 +5,7 @@ ghost use Rattle.std.specs.FinMap as finmap;
 ghost use Rattle.keepers.specs.InputsState.{Notes, FailsIfListed};
 ghost use Rattle.keepers.specs.Claims.{Begins, bytes_in};
 
+use crate::failing_calls::FailingCalls;
 use crate::inputs::{InputFault, Inputs, Whole};
 use crate::names::Names;
 use std::alloc::Global;
@@ -15,9 +16,7 @@ use std::marker::Model;
 pub struct MemoryInputs {
     list: Vec<(Vec<u8>, Vec<u8>)>,
     asked: Names,
-    failing: Vec<u64>,
-    calls: u64,
-    faults: u64,
+    calls: FailingCalls,
 }
 
 impl Model for MemoryInputs {
@@ -32,9 +31,9 @@ impl Model for MemoryInputs {
     ghost view = { λ s. record {
       files = finmap.from_entries (map (λ e. (e.0.items, e.1.items)) s.list.items);
       asked = s.asked;
-      failing = s.failing.items;
-      calls = s.calls;
-      faults = s.faults;
+      failing = s.calls.listed.items;
+      calls = s.calls.count;
+      faults = s.calls.faults;
     } };
 }
 
@@ -52,27 +51,23 @@ impl MemoryInputs {
         Self {
             list,
             asked: Names::new(alloc),
-            failing: Vec::new(alloc),
-            calls: 0,
-            faults: 0,
+            calls: FailingCalls::new(alloc),
         }
     }
 
     /// Lets the listed calls of `read` fail. The first call is number 1.
-    pub fn failing(self, list: Vec<u64>) -> Self
+    pub fn failing(mut self, list: Vec<u64>) -> Self
         ensures { result ≡ record self { failing = list.items } }
     {
-        Self {
-            failing: list,
-            ..self
-        }
+        self.calls.listed = list;
+        self
     }
 
     /// How often `read` failed, up to `u64::MAX`.
     pub fn faults(&self) -> u64
         ensures { result ≡ self.now.faults }
     {
-        self.faults
+        self.calls.faults
     }
 
     fn find(&self, name: &[u8]) -> Option<&[u8]>
@@ -106,16 +101,16 @@ impl Inputs for MemoryInputs {
         ensures fails { FailsIfListed result name.now self.old self.new }
     {
         into.clear();
-        self.calls = self.calls.saturating_add(1);
+        let fails = self.calls.next_fails();
         if self.asked.push(name).is_err() {
             return Err(InputFault::Memory);
         }
-        if self.failing.contains(&self.calls) {
-            self.faults = self.faults.saturating_add(1);
+        if fails {
+            self.calls.count_fault();
             return Err(InputFault::Failed);
         }
         let Some(bytes) = self.find(name) else {
-            self.faults = self.faults.saturating_add(1);
+            self.calls.count_fault();
             return Err(InputFault::Failed);
         };
         if bytes.len() > limit as usize {

@@ -2,13 +2,14 @@
 ghost use Rattle.std.specs.Prelude.{◌≡◌, ◌≢◌, ◌↔◌, ◌<◌, ◌≤◌, ℕ, [], length, take, IsTrue, None, Some, Ok, Err, OnOk, IfOk};
 ghost use Rattle.std.specs.Vec.{vec_len, vec_capacity};
 ghost use Rattle.std.specs.FinMap as finmap;
+ghost use Rattle.keepers.specs.Calls.{counts_of};
 ghost use Rattle.keepers.specs.Counts.{raised};
 ghost use Rattle.keepers.specs.FailureList.{IsListed};
 ghost use Rattle.keepers.specs.Claims.{image_in, SameButAt};
 
 use crate::keeper::{KeepFault, Keeper};
 use crate::place::{Place, image_at, with_place, with_rooms};
-use crate::storage::Storage;
+use crate::storage::{CallCounts, Storage};
 use std::alloc::{AllocError, Global};
 use std::marker::Model;
 
@@ -28,10 +29,7 @@ pub struct MemoryKeeper {
     slots: u32,
     room: Option<u32>,
     failing: Vec<(Op, u64)>,
-    puts: u64,
-    gets: u64,
-    frees: u64,
-    faults: u64,
+    counts: CallCounts,
 }
 
 impl Model for MemoryKeeper {
@@ -48,10 +46,10 @@ impl Model for MemoryKeeper {
       slots = k.slots;
       room = k.room;
       failing = k.failing.items;
-      puts = k.puts;
-      gets = k.gets;
-      frees = k.frees;
-      faults = k.faults;
+      puts = k.counts.puts;
+      gets = k.counts.gets;
+      frees = k.counts.frees;
+      faults = k.counts.faults;
     } };
 
     // There are places for the first slots. With a room, all slots have places, and each place has that room.
@@ -70,10 +68,7 @@ impl MemoryKeeper {
             slots,
             room: None,
             failing: Vec::new(alloc),
-            puts: 0,
-            gets: 0,
-            frees: 0,
-            faults: 0,
+            counts: CallCounts::NONE,
         }
     }
 
@@ -96,10 +91,7 @@ impl MemoryKeeper {
             slots,
             room: Some(bytes),
             failing: Vec::new(alloc),
-            puts: 0,
-            gets: 0,
-            frees: 0,
-            faults: 0,
+            counts: CallCounts::NONE,
         })
     }
 
@@ -126,32 +118,11 @@ impl MemoryKeeper {
         count
     }
 
-    /// How often `put` was called, up to `u64::MAX`.
-    pub fn puts(&self) -> u64
-        ensures { result ≡ self.now.puts }
+    /// How often it was called, and how many of the listed calls failed.
+    pub fn counts(&self) -> CallCounts
+        ensures { result ≡ counts_of ⟦<MemoryKeeper as Storage>⟧ self.now }
     {
-        self.puts
-    }
-
-    /// How often `get` was called, up to `u64::MAX`.
-    pub fn gets(&self) -> u64
-        ensures { result ≡ self.now.gets }
-    {
-        self.gets
-    }
-
-    /// How often `free` was called, up to `u64::MAX`.
-    pub fn frees(&self) -> u64
-        ensures { result ≡ self.now.frees }
-    {
-        self.frees
-    }
-
-    /// How many of the listed calls failed, up to `u64::MAX`.
-    pub fn faults(&self) -> u64
-        ensures { result ≡ self.now.faults }
-    {
-        self.faults
+        self.counts
     }
 }
 
@@ -195,10 +166,10 @@ impl Keeper for MemoryKeeper {
         ensures others { SameButAt slot self.old.images self.new.images }
         ensures roomy { (room : ℕ) → self.old.room ≡ Some room → length image.now ≤ room → result ≢ Err KeepFault.Memory }
     {
-        let fails = is_listed(&self.failing, Op::Put, self.puts);
-        self.puts = self.puts.saturating_add(1);
+        let fails = is_listed(&self.failing, Op::Put, self.counts.puts);
+        self.counts.puts = self.counts.puts.saturating_add(1);
         if fails {
-            self.faults = self.faults.saturating_add(1);
+            self.counts.faults = self.counts.faults.saturating_add(1);
             return Err(KeepFault::Failed);
         }
         if with_place(self.alloc, &mut self.places, slot).is_err() {
@@ -216,10 +187,10 @@ impl Keeper for MemoryKeeper {
         ensures unfailed { result ≢ Err KeepFault.Failed → self.new ≡ record self.old { gets = raised self.old.gets 1 } }
         ensures roomy { len ≤ vec_capacity into.old → result ≢ Err KeepFault.Memory }
     {
-        let fails = is_listed(&self.failing, Op::Get, self.gets);
-        self.gets = self.gets.saturating_add(1);
+        let fails = is_listed(&self.failing, Op::Get, self.counts.gets);
+        self.counts.gets = self.counts.gets.saturating_add(1);
         if fails {
-            self.faults = self.faults.saturating_add(1);
+            self.counts.faults = self.counts.faults.saturating_add(1);
             return Err(KeepFault::Failed);
         }
         into.clear();
@@ -240,10 +211,10 @@ impl Keeper for MemoryKeeper {
         ensures ok { OnOk result (self.new ≡ record self.old { images = finmap.remove self.old.images slot; frees = raised self.old.frees 1 }) }
         ensures failed { result ≡ Err KeepFault.Failed → self.new ≡ record self.old { frees = raised self.old.frees 1; faults = raised self.old.faults 1 } }
     {
-        let fails = is_listed(&self.failing, Op::Free, self.frees);
-        self.frees = self.frees.saturating_add(1);
+        let fails = is_listed(&self.failing, Op::Free, self.counts.frees);
+        self.counts.frees = self.counts.frees.saturating_add(1);
         if fails {
-            self.faults = self.faults.saturating_add(1);
+            self.counts.faults = self.counts.faults.saturating_add(1);
             return Err(KeepFault::Failed);
         }
         if (slot as usize) < self.places.len() {

@@ -2,6 +2,7 @@
 ghost use Rattle.std.specs.Prelude.{◌≡◌, ◌+◌, ◌≤◌, ◌↔◌, [], ◌++◌, length, Contains, IfOk, IsOk, OnOk, OnErr};
 ghost use Rattle.keepers.specs.Counts.{raised};
 
+use crate::failing_calls::FailingCalls;
 use crate::sink::{Sink, SinkFault};
 use std::alloc::{AllocError, Global};
 use std::marker::Model;
@@ -11,9 +12,7 @@ use std::marker::Model;
 pub struct MemorySink {
     bytes: Vec<u8>,
     room: u32,
-    failing: Vec<u64>,
-    calls: u64,
-    faults: u64,
+    calls: FailingCalls,
 }
 
 impl Model for MemorySink {
@@ -23,7 +22,7 @@ impl Model for MemorySink {
 
     ghost Value = { SinkState };
 
-    ghost view = { λ s. record { bytes = s.bytes.items; room = s.room; failing = s.failing.items; calls = s.calls; faults = s.faults } };
+    ghost view = { λ s. record { bytes = s.bytes.items; room = s.room; failing = s.calls.listed.items; calls = s.calls.count; faults = s.calls.faults } };
 
     ghost invariant = { λ s. (vec_len s.bytes ≤ s.room) × (s.room ≤ vec_capacity s.bytes) };
 }
@@ -36,20 +35,16 @@ impl MemorySink {
         Ok(Self {
             bytes: Vec::with_capacity(alloc, room as usize)?,
             room,
-            failing: Vec::new(alloc),
-            calls: 0,
-            faults: 0,
+            calls: FailingCalls::new(alloc),
         })
     }
 
     /// Lets the listed calls of `write` fail. The first call is number 1.
-    pub fn failing(self, list: Vec<u64>) -> Self
+    pub fn failing(mut self, list: Vec<u64>) -> Self
         ensures { result ≡ record self { failing = list.items } }
     {
-        Self {
-            failing: list,
-            ..self
-        }
+        self.calls.listed = list;
+        self
     }
 
     /// What was written.
@@ -63,7 +58,20 @@ impl MemorySink {
     pub fn faults(&self) -> u64
         ensures { result ≡ self.now.faults }
     {
-        self.faults
+        self.calls.faults
+    }
+
+    /// Counts a call, which fails if it is listed.
+    pub fn begin_call(&mut self) -> Result<(), SinkFault>
+        ensures taken { IsOk result ↔ (Contains self.old.failing (raised self.old.calls 1) → ⊥) }
+        ensures ok { OnOk result (self.new ≡ record self.old { calls = raised self.old.calls 1 }) }
+        ensures refused { OnErr result (self.new ≡ record self.old { calls = raised self.old.calls 1; faults = raised self.old.faults 1 }) }
+    {
+        if self.calls.next_fails() {
+            self.calls.count_fault();
+            return Err(SinkFault::Failed);
+        }
+        Ok(())
     }
 }
 
@@ -83,10 +91,9 @@ impl Sink for MemorySink {
         ensures calls { self.new.calls ≡ raised self.old.calls 1 }
         ensures later { self.old.faults ≤ self.new.faults }
     {
-        self.calls = self.calls.saturating_add(1);
-        let fails = self.failing.contains(&self.calls);
-        if fails || piece.len() > self.room as usize - self.bytes.len() {
-            self.faults = self.faults.saturating_add(1);
+        self.begin_call()?;
+        if piece.len() > self.room as usize - self.bytes.len() {
+            self.calls.count_fault();
             return Err(SinkFault::Failed);
         }
         self.bytes.extend_from_slice(piece).unwrap();

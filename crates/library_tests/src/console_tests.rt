@@ -183,8 +183,8 @@ fn a_program_that_adds_up_is_gone_through(rt: HostRuntime) -> Result<(), Fail> {
     let place = answered_in_memory(&rt, alloc, over, TOUR, &mut keepers, &mut out)?;
     assert_eq!(rt; place, 907);
     assert!(rt; lines_begin(out.bytes(), &PLACES));
-    assert_eq!(rt; keepers.first().map(|keeper| keeper.puts()), Some(4));
-    assert_eq!(rt; keepers.last().map(|keeper| keeper.puts()), Some(8));
+    assert_eq!(rt; keepers.first().map(|keeper| keeper.counts().puts), Some(4));
+    assert_eq!(rt; keepers.last().map(|keeper| keeper.counts().puts), Some(8));
     Ok(())
 }
 

@@ -8,6 +8,7 @@ use crate::meeting::Meeting;
 use crate::states::first_state;
 use crate::undo_tests::{COUNTING, JOURNAL, take};
 use input_journal::read_journal;
+use plan_types::NoGate;
 use rv_machine::{State, Steps};
 use state_image::image_digest;
 use std::alloc::{AllocError, Global};
@@ -57,7 +58,7 @@ fn known_before<R: Threads + Sync>(
 {
     let mut known = Vec::with_capacity(alloc, 1)?;
     if first_known {
-        digesters.digest(rt, state, undo, &mut known);
+        digesters.digest(rt, &NoGate, state, undo, &mut known);
     }
     known.reserve(20)?;
     Ok(known)
@@ -83,7 +84,7 @@ fn take_digests<L: Ledger, R: Threads + Sync>(
     let mut digesters = Digesters::begin(alloc, &state, 20, case.workers)?;
     let gate = Meeting::new(alloc, case.workers, 0)?;
     let mut known = known_before(rt, alloc, &state, &undo, &mut digesters, case.first_known)?;
-    digesters.digest_with(rt, &gate, &state, &undo, &mut known);
+    digesters.digest(rt, &gate, &state, &undo, &mut known);
     assert_eq!(abort; gate.calls(), Some(case.calls));
     check_digests(abort, &mut undo, &mut state, known.as_slice());
     Ok(())

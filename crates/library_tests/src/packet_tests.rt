@@ -4,55 +4,43 @@ use gdb_wire::{
 };
 use std::test::Fail;
 
-// What the packets ask for. The first is shortened, and the last four are computed from gdb's manual.
-const PACKETS: [(&[u8], &[u8]); 26] = [
-    (b"$qSupported:multiprocess+;swbreak+#1b", b"Supported"),
-    (
-        b"$qXfer:features:read:target.xml:0,1000#0c",
-        b"Features { from: 0, len: 4096 }",
-    ),
-    (b"$QStartNoAckMode#b0", b"NoAcks"),
-    (b"$?#3f", b"Why"),
-    (b"$g#67", b"Registers"),
-    (b"$mbfffffc0,40#f0", b"Memory { at: 3221225408, len: 64 }"),
-    (
-        b"$Z0,10014,4#0c",
-        b"Insert { kind: Breakpoint, at: 65556, len: 4 }",
-    ),
-    (
-        b"$z1,1006c,4#61",
-        b"Remove { kind: Breakpoint, at: 65644, len: 4 }",
-    ),
-    (
-        b"$Z2,110e0,4#3f",
-        b"Insert { kind: WriteWatch, at: 69856, len: 4 }",
-    ),
-    (b"$s#73", b"Move(Step)"),
-    (b"$c#63", b"Move(Continue)"),
-    (b"$bs#d5", b"Move(StepBack)"),
-    (b"$bc#c5", b"Move(ContinueBack)"),
-    (
-        b"$qRcmd,7768656e#05",
-        b"Monitor(Command { text: [119, 104, 101, 110] })",
-    ),
-    (b"$Xbfffff80,2:\x02\x90#4a", b"Write"),
-    (b"$qAttached#8f", b"Attached"),
-    (b"$Hg0#df", b"SetThread"),
-    (b"$D#44", b"Detach"),
-    (b"$k#6b", b"Kill"),
-    (b"$vMustReplyEmpty#3a", b"Other"),
-    (b"$vCont?#49", b"Other"),
-    (b"$qC#b4", b"Other"),
-    (b"$p20#d2", b"Register(32)"),
-    (b"$mBFFFFFC0,40#10", b"Memory { at: 3221225408, len: 64 }"),
-    (b"$m123456789,4#aa", b"Other"),
-    (b"$qRcmd,67x#08", b"Other"),
-];
+// Packets, and what they ask for. The first is shortened, and the last four are computed from gdb's manual.
+const PACKETS: &[u8] = b"\
+$qSupported:multiprocess+;swbreak+#1b Supported
+$qXfer:features:read:target.xml:0,1000#0c Features { from: 0, len: 4096 }
+$QStartNoAckMode#b0 NoAcks
+$?#3f Why
+$g#67 Registers
+$mbfffffc0,40#f0 Memory { at: 3221225408, len: 64 }
+$Z0,10014,4#0c Insert { kind: Breakpoint, at: 65556, len: 4 }
+$z1,1006c,4#61 Remove { kind: Breakpoint, at: 65644, len: 4 }
+$Z2,110e0,4#3f Insert { kind: WriteWatch, at: 69856, len: 4 }
+$s#73 Move(Step)
+$c#63 Move(Continue)
+$bs#d5 Move(StepBack)
+$bc#c5 Move(ContinueBack)
+$qRcmd,7768656e#05 Monitor(Command { text: [119, 104, 101, 110] })
+$Xbfffff80,2:\x02\x90#4a Write
+$qAttached#8f Attached
+$Hg0#df SetThread
+$D#44 Detach
+$k#6b Kill
+$vMustReplyEmpty#3a Other
+$vCont?#49 Other
+$qC#b4 Other
+$p20#d2 Register(32)
+$mBFFFFFC0,40#10 Memory { at: 3221225408, len: 64 }
+$m123456789,4#aa Other
+$qRcmd,67x#08 Other";
 
 #[test]
 fn packets_ask_for_what_gdb_means(rt: HostRuntime) -> Result<(), Fail> {
-    for (line, asked) in PACKETS {
-        let found = next_item(line).ok_or("less than an item")?;
+    for line in PACKETS.split(|byte| *byte == b'\n') {
+        let mut parts = line.splitn(2, |byte| *byte == b' ');
+        let (Some(packet), Some(asked)) = (parts.next(), parts.next()) else {
+            return Err("no pair".into());
+        };
+        let found = next_item(packet).ok_or("less than an item")?;
         let Found {
             item: Item::Packet(body),
             len,
@@ -60,7 +48,7 @@ fn packets_ask_for_what_gdb_means(rt: HostRuntime) -> Result<(), Fail> {
         else {
             return Err("no packet".into());
         };
-        assert_eq!(rt; len, line.len());
+        assert_eq!(rt; len, packet.len());
         let mut text = Vec::new(rt.alloc());
         push_unescaped(&mut text, body)?;
         let request = read_request(rt.alloc(), text.as_slice())?;

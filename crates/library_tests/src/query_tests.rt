@@ -1,7 +1,8 @@
 // Questions on a program that stores a word twice, over a list of four steps.
-ghost use Rattle.std.specs.Prelude.{◌≡◌, ◌<◌, ◌≤◌, map, IfOk};
+ghost use Rattle.std.specs.Prelude.{◌≡◌, ◌<◌, ◌≤◌, IfOk};
 ghost use Rattle.std.specs.Bool.{OnTrue};
 ghost use Rattle.level_book.specs.Prelude.{slots_of, Valid};
+ghost use Rattle.reverse_runner.specs.Prelude.{slot_counts};
 ghost use Rattle.reverse_queries.specs.Prelude.{AwaitsList};
 
 use crate::sessions::{STACK, four, have_room};
@@ -60,7 +61,7 @@ fn ask_session<K: Keeper, L: Ledger>(
     steps: &mut Steps<L>,
 ) -> Result<Option<u32>, RunFault>
     requires four { session.old.situation.steps ≡ 4 }
-    requires awaits { AwaitsList session.old list.now (map K.slot_count keepers.old.items) }
+    requires awaits { AwaitsList session.old list.now (slot_counts K.Storage keepers.old.items) }
 {
     match ask {
         Ask::State(place) if place <= session.unit() * 4 => {
@@ -133,7 +134,7 @@ fn answered(
     Ok(Answer {
         step,
         done,
-        gets: keepers.first().map(|keeper| keeper.gets()),
+        gets: keepers.first().map(|keeper| keeper.counts().gets),
     })
 }
 

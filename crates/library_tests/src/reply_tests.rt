@@ -119,49 +119,51 @@ fn the_description_is_what_gdb_was_sent(rt: HostRuntime) {
 // The lines of a state, and of a run that ends at it.
 fn lines_of(alloc: Global, n: u32, state: &State) -> Result<Vec<u8>, AllocError> {
     let mut out = Vec::new(alloc);
-    push_place_line(alloc, &mut out, n, state)?;
-    push_ending_line(alloc, &mut out, n, state)?;
+    push_place_line(&mut out, n, state)?;
+    push_ending_line(&mut out, n, state)?;
     Ok(out)
 }
 
 #[test]
-fn a_running_state_is_told_in_words(rt: HostRuntime) -> Result<(), Fail> {
+fn a_state_and_an_ending_are_told_in_words(rt: HostRuntime) -> Result<(), Fail> {
     let alloc = rt.alloc();
-    let lines = lines_of(alloc, 375, &state_at(alloc, 0x10064, Status::Running)?)?;
-    let right = b"state 375, pc 0x10064
+    let running = state_at(alloc, 0x10064, Status::Running)?;
+    let exited = state_at(alloc, 0x10010, Status::Exited(111))?;
+    let trapped = state_at(alloc, 0x101c8, Status::Trapped(7))?;
+    let cases: [(u32, &State, &[u8]); 3] = [
+        (
+            375,
+            &running,
+            b"state 375, pc 0x10064
 reversal: the program still runs, and the run may have no more steps (state 375)
-";
-    assert_eq!(rt; lines.as_slice(), right.as_slice());
-    Ok(())
-}
-
-#[test]
-fn an_exit_is_told_in_words(rt: HostRuntime) -> Result<(), Fail> {
-    let alloc = rt.alloc();
-    let lines = lines_of(alloc, 688, &state_at(alloc, 0x10010, Status::Exited(111))?)?;
-    let right = b"state 688, pc 0x10010, exit 111
+",
+        ),
+        (
+            688,
+            &exited,
+            b"state 688, pc 0x10010, exit 111
 reversal: the program exited with code 111 (state 688)
-";
-    assert_eq!(rt; lines.as_slice(), right.as_slice());
-    Ok(())
-}
-
-#[test]
-fn a_trap_is_told_in_words(rt: HostRuntime) -> Result<(), Fail> {
-    let alloc = rt.alloc();
-    let lines = lines_of(alloc, 3032, &state_at(alloc, 0x101c8, Status::Trapped(7))?)?;
-    let right = b"state 3032, pc 0x101c8, trap 7
+",
+        ),
+        (
+            3032,
+            &trapped,
+            b"state 3032, pc 0x101c8, trap 7
 reversal: the program stopped at a trap: a store where there is no memory (state 3032)
-";
-    assert_eq!(rt; lines.as_slice(), right.as_slice());
+",
+        ),
+    ];
+    for (n, state, right) in cases {
+        assert_eq!(rt; lines_of(alloc, n, state)?.as_slice(), right);
+    }
     Ok(())
 }
 
 #[test]
 fn numbers_have_no_zeros_before_them(rt: HostRuntime) -> Result<(), Fail> {
     let mut out = Vec::new(rt.alloc());
-    push_hexadecimal(rt.alloc(), &mut out, 0)?;
-    push_hexadecimal(rt.alloc(), &mut out, 0xbffffff0)?;
+    push_hexadecimal(&mut out, 0)?;
+    push_hexadecimal(&mut out, 0xbffffff0)?;
     let right = b"0bffffff0";
     assert_eq!(rt; out.as_slice(), right.as_slice());
     Ok(())

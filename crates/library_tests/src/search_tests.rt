@@ -39,6 +39,19 @@ struct Search {
     workers: u32,
 }
 
+impl Search {
+    fn new(word: u32, last: u32, wanted: Option<u32>, workers: u32) -> Search
+        ensures { result ≡ record { word = word; last = last; wanted = wanted; workers = workers } }
+    {
+        Search {
+            word,
+            last,
+            wanted,
+            workers,
+        }
+    }
+}
+
 // What the workers of a search find, each through the gate.
 fn found_by<L: Ledger, R: Threads + Sync, G: Gate + Sync>(
     rt: &R,
@@ -92,12 +105,7 @@ fn find<R: Threads + Sync, G: Gate + Sync>(
 fn workers_search_at_once(rt: HostRuntime) -> Result<(), Fail> {
     for workers in [2, 4, 64] {
         let gate = Meeting::new(rt.alloc(), workers, 17)?;
-        let wanted = Search {
-            word: COUNT_UP,
-            last: 20 * workers - 1,
-            wanted: None,
-            workers,
-        };
+        let wanted = Search::new(COUNT_UP, 20 * workers - 1, None, workers);
         assert_eq!(rt; find(&rt, &rt, rt.alloc(), wanted, &gate)?, None);
         assert_eq!(rt; gate.calls(), Some(20));
     }
@@ -148,31 +156,16 @@ impl Gate for Handover {
     }
 }
 
-// Two segments of 501 states. State 510 is the tenth of the second one.
 #[test]
-fn a_worker_ends_at_a_place_behind_its_segment(rt: HostRuntime) -> Result<(), Fail> {
+fn a_worker_ends_only_at_a_place_behind_its_segment(rt: HostRuntime) -> Result<(), Fail> {
+    // Two segments of 501 states. State 510 is the tenth of the second one.
     let gate = Handover::new(10, 11);
-    let wanted = Search {
-        word: COUNT_UP,
-        last: 1000,
-        wanted: Some(510),
-        workers: 2,
-    };
+    let wanted = Search::new(COUNT_UP, 1000, Some(510), 2);
     assert_eq!(rt; find(&rt, &rt, rt.alloc(), wanted, &gate)?, Some(510));
     assert_eq!(rt; gate.calls[0].load(SeqCst), 10);
-    Ok(())
-}
-
-// Two segments of four states. State 2 equals state 6.
-#[test]
-fn a_place_that_was_stored_ends_no_worker_behind_it(rt: HostRuntime) -> Result<(), Fail> {
+    // Two segments of four states. State 2 equals state 6. The place that was stored ends no worker behind it.
     let gate = Handover::new(4, 0);
-    let wanted = Search {
-        word: TURN_OVER,
-        last: 7,
-        wanted: Some(2),
-        workers: 2,
-    };
+    let wanted = Search::new(TURN_OVER, 7, Some(2), 2);
     assert_eq!(rt; find(&rt, &rt, rt.alloc(), wanted, &gate)?, Some(6));
     assert_eq!(rt; gate.calls[1].load(SeqCst), 4);
     Ok(())
@@ -182,15 +175,10 @@ fn a_place_that_was_stored_ends_no_worker_behind_it(rt: HostRuntime) -> Result<(
 #[test]
 fn every_number_of_workers_finds_the_same(rt: HostRuntime) -> Result<(), Fail> {
     for workers in [1, 2, 5, 64] {
-        let mut wanted = Search {
-            word: TURN_OVER,
-            last: 42,
-            wanted: Some(0),
-            workers,
-        };
-        assert_eq!(rt; find(&rt, &rt, rt.alloc(), wanted, &NoGate)?, Some(40));
-        wanted.wanted = None;
-        assert_eq!(rt; find(&rt, &rt, rt.alloc(), wanted, &NoGate)?, None);
+        let first = Search::new(TURN_OVER, 42, Some(0), workers);
+        assert_eq!(rt; find(&rt, &rt, rt.alloc(), first, &NoGate)?, Some(40));
+        let none = Search::new(TURN_OVER, 42, None, workers);
+        assert_eq!(rt; find(&rt, &rt, rt.alloc(), none, &NoGate)?, None);
     }
     Ok(())
 }

@@ -1,7 +1,7 @@
 // Lists performed over four words, with working and failing keepers and writers.
-ghost use Rattle.std.specs.Prelude.{◌≡◌, ◌*◌, ◌<◌, ◌≤◌, map};
+ghost use Rattle.std.specs.Prelude.{◌≡◌, ◌*◌, ◌<◌, ◌≤◌};
 ghost use Rattle.plan_types.specs.declared.limits.TheConstants.{MOST_STEPS};
-ghost use Rattle.reverse_runner.specs.Prelude.{HaveRoom};
+ghost use Rattle.reverse_runner.specs.Prelude.{HaveRoom, slot_counts};
 
 use crate::sessions::{STACK, four, have_room, three};
 use crate::states::first_state;
@@ -78,8 +78,8 @@ fn refusal<K: Keeper, V: Visitor, L: Ledger>(
     visitor: &mut V,
     steps: &mut Steps<L>,
 ) -> Option<RunFault>
-    requires { HaveRoom session.old.situation.steps session.old.situation.slots (map K.slot_count keepers.old.items) }
-    ensures { HaveRoom session.new.situation.steps session.new.situation.slots (map K.slot_count keepers.new.items) }
+    requires { HaveRoom session.old.situation.steps session.old.situation.slots (slot_counts K.Storage keepers.old.items) }
+    ensures { HaveRoom session.new.situation.steps session.new.situation.slots (slot_counts K.Storage keepers.new.items) }
 {
     match session.config().judge(action) {
         Ok(()) => session.perform(action, keepers, visitor, steps).err(),
@@ -96,7 +96,7 @@ fn go_through<K: Keeper, V: Visitor, L: Ledger>(
     visitor: &mut V,
     steps: &mut Steps<L>,
 ) -> Result<Vec<RunFault>, AllocError>
-    requires { HaveRoom session.old.situation.steps session.old.situation.slots (map K.slot_count keepers.old.items) }
+    requires { HaveRoom session.old.situation.steps session.old.situation.slots (slot_counts K.Storage keepers.old.items) }
 {
     let mut faults = Vec::new(alloc);
     for action in list {
@@ -193,12 +193,8 @@ fn three_units<K: Keeper>(
 
 // How often a keeper was called, by put, get and free, and how many slots hold an image.
 fn calls(keeper: &MemoryKeeper) -> (u64, u64, u64, u32) {
-    (
-        keeper.puts(),
-        keeper.gets(),
-        keeper.frees(),
-        keeper.filled(),
-    )
+    let counts = keeper.counts();
+    (counts.puts, counts.gets, counts.frees, keeper.filled())
 }
 
 // Performs a list over a keeper with one failing call. The action is refused, and so are all later ones. It returns how

@@ -73,3 +73,17 @@ fn workers_are_at_work_at_once_on_all_rows(rt: HostRuntime) -> Result<(), Fail> 
     fill(&rt, &rt, rt.alloc(), 20, 3, 18)?;
     fill(&rt, &rt, rt.alloc(), 100, 64, 41)
 }
+
+// Each row has two entries, so each of two workers fills one. The four rows are shared one at a time, and they meet at
+// each.
+#[test]
+fn two_workers_fill_the_entries_of_a_row_together(rt: HostRuntime) -> Result<(), Fail> {
+    let gate = Meeting::new(rt.alloc(), 2, 0)?;
+    let book = Book::plain(2);
+    assert!(rt; Tables::fits(4, &book));
+    let tables = Tables::build_with(&rt, rt.alloc(), 4, &book, 2, &gate)?;
+    assert_eq!(rt; gate.calls(), Some(4));
+    assert_eq!(rt; held(&tables, 0, 4, 0), Some(Cost::Number(14)));
+    assert_eq!(rt; held(&tables, 0, 4, 1), Some(Cost::Number(12)));
+    Ok(())
+}

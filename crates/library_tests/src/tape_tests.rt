@@ -1,8 +1,8 @@
 // Which digests are known of the states that a session hands out.
-ghost use Rattle.std.specs.Prelude.{◌≡◌, ◌<◌, ℕ, List, map};
+ghost use Rattle.std.specs.Prelude.{◌≡◌, ◌<◌, ℕ, List};
 ghost use Rattle.std.specs.List.{AllByRecursion};
 ghost use Rattle.unit_digests.specs.Prelude.{HasPages};
-ghost use Rattle.reverse_runner.specs.Prelude.{HaveRoom};
+ghost use Rattle.reverse_runner.specs.Prelude.{HaveRoom, slot_counts};
 
 use crate::sessions::have_room;
 use crate::states::first_state;
@@ -64,8 +64,8 @@ fn goes<K: Keeper, L: Ledger>(
     counts: &mut Counts,
     steps: &mut Steps<L>,
 ) -> bool
-    requires { HaveRoom session.old.situation.steps session.old.situation.slots (map K.slot_count keepers.old.items) }
-    ensures room { HaveRoom session.new.situation.steps session.new.situation.slots (map K.slot_count keepers.new.items) }
+    requires { HaveRoom session.old.situation.steps session.old.situation.slots (slot_counts K.Storage keepers.old.items) }
+    ensures room { HaveRoom session.new.situation.steps session.new.situation.slots (slot_counts K.Storage keepers.new.items) }
     ensures pages { (digesters : List (List ℕ)) → AllByRecursion (HasPages session.old.work) digesters →
         AllByRecursion (HasPages session.new.work) digesters }
 {
@@ -83,8 +83,8 @@ fn both_go<K: Keeper, L: Ledger>(
     counts: &mut Counts,
     steps: &mut Steps<L>,
 ) -> bool
-    requires { HaveRoom session.old.situation.steps session.old.situation.slots (map K.slot_count keepers.old.items) }
-    ensures room { HaveRoom session.new.situation.steps session.new.situation.slots (map K.slot_count keepers.new.items) }
+    requires { HaveRoom session.old.situation.steps session.old.situation.slots (slot_counts K.Storage keepers.old.items) }
+    ensures room { HaveRoom session.new.situation.steps session.new.situation.slots (slot_counts K.Storage keepers.new.items) }
     ensures pages { (digesters : List (List ℕ)) → AllByRecursion (HasPages session.old.work) digesters →
         AllByRecursion (HasPages session.new.work) digesters }
 {

@@ -12,6 +12,7 @@ mod address;
 mod blank;
 mod fault;
 mod lines;
+mod lists;
 mod number;
 mod tokens;
 
@@ -19,5 +20,6 @@ pub use crate::address::address_of;
 pub use crate::blank::{after_blanks, past};
 pub use crate::fault::{Fault, LineFault, Rules};
 pub use crate::lines::{Lines, length_before, without_first};
+pub use crate::lists::push_found;
 pub use crate::number::{number_at, number_of};
 pub use crate::tokens::{NoBlanks, RunBytes, Token, Tokens, Words, run_length};

@@ -5,6 +5,7 @@ pub mod FormValues
 pub mod PlaceWords
 pub mod Commands
 pub mod Requests
+pub mod OptionNumbers
 pub mod NumberTests
 pub mod FolderPlaces
 pub mod Lists

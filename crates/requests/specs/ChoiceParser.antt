@@ -1,6 +1,6 @@
 -- No public clause cites this file. What the reader of options computes, as functions on lists, and the option that one in
 -- memory is.
-use Rattle.std.specs.Prelude.{ℕ, ◌==◌, Bool, true, not, ◌&&◌, if◌then◌else◌, List, [], ◌∷◌, length, codes, Option, None, Some}
+use Rattle.std.specs.Prelude.{ℕ, ◌==◌, Bool, true, not, ◌&&◌, if◌then◌else◌, List, [], ◌∷◌, length, codes, find, Option, None, Some, unwrap_or}
 use Rattle.std.specs.List.{list_any}
 use Rattle.std.specs.Str.{bytes_eq}
 use Rattle.requests.specs.declared.options.Choice as in_memory
@@ -66,6 +66,18 @@ is_like (files level folder) = is_files level
 abbrev pub are_single : List Choice → Bool
 are_single [] = true
 are_single (choice ∷ options) = not (list_any (is_like choice) options) && are_single options
+
+-- the number of an option: for files, that of the level
+abbrev pub choice_number : Choice → ℕ
+choice_number raw = 0
+choice_number (stack pages) = pages
+choice_number (workers count) = count
+choice_number (units count) = count
+choice_number (files level folder) = level
+
+-- the number of the first option of this one's kind, or of this one if there is none
+abbrev pub number_like : Choice → List Choice → ℕ
+number_like default options = choice_number (unwrap_or (find (is_like default) options) default)
 
 -- the option that one in memory is
 abbrev pub as_choice : in_memory.Choice → Choice

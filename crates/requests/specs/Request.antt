@@ -115,8 +115,8 @@ pub record PlanPeriodic : Type 0 where
   pub steps : ℕ
   pub period : ℕ
 
--- to judge a schedule for a book and a number of steps
-pub record Check : Type 0 where
+-- a schedule for a book and a number of steps: to judge it, or to print what it costs
+pub record ScheduleFor : Type 0 where
   pub book : List ℕ
   pub schedule : List ℕ
   pub steps : ℕ
@@ -126,12 +126,6 @@ pub record Certify : Type 0 where
   pub book : List ℕ
   pub schedule : List ℕ
   pub certificate : List ℕ
-  pub steps : ℕ
-
--- to print what a schedule costs, for a book and a number of steps
-pub record Cost : Type 0 where
-  pub book : List ℕ
-  pub schedule : List ℕ
   pub steps : ℕ
 
 -- to ask something of a run, by the schedule under a name
@@ -174,9 +168,9 @@ pub data Command : Type 0 where
   run : RunBackward → Command
   plan : PlanFor → Command
   plan_periodic : PlanPeriodic → Command
-  check : Check → Command
+  check : ScheduleFor → Command
   certify : Certify → Command
-  cost : Cost → Command
+  cost : ScheduleFor → Command
   ask : Ask → Command
   find : Find → Command
   asm : Asm → Command

@@ -5,9 +5,8 @@ use Rattle.requests.specs.declared.request.Run as run_in_memory
 use Rattle.requests.specs.declared.request.RunBackward as run_backward_in_memory
 use Rattle.requests.specs.declared.request.PlanFor as plan_for_in_memory
 use Rattle.requests.specs.declared.request.PlanPeriodic as plan_periodic_in_memory
-use Rattle.requests.specs.declared.request.Check as check_in_memory
+use Rattle.requests.specs.declared.request.ScheduleFor as schedule_for_in_memory
 use Rattle.requests.specs.declared.request.Certify as certify_in_memory
-use Rattle.requests.specs.declared.request.Cost as cost_in_memory
 use Rattle.requests.specs.declared.request.Ask as ask_in_memory
 use Rattle.requests.specs.declared.request.Find as find_in_memory
 use Rattle.requests.specs.declared.request.Asm as asm_in_memory
@@ -24,7 +23,7 @@ use Rattle.requests.specs.declared.schedule.Schedule.TheVariants as the_schedule
 use Rattle.requests.specs.Operands.{Schedule, by_name, made, within, steps_limit, instructions_limit, question_bound}
 use Rattle.requests.specs.ParserSteps.{◌>>=◌}
 use Rattle.requests.specs.Forms.{command_of}
-use Rattle.requests.specs.Request.{Run, RunBackward, PlanFor, PlanPeriodic, Check, Certify, Cost, Ask, Find, Asm, Disasm, Console, Demo, Command, run, plan, plan_periodic, check, certify, cost, ask, find, asm, disasm, console, demo, Request}
+use Rattle.requests.specs.Request.{Run, RunBackward, PlanFor, PlanPeriodic, ScheduleFor, Certify, Ask, Find, Asm, Disasm, Console, Demo, Command, run, plan, plan_periodic, check, certify, cost, ask, find, asm, disasm, console, demo, Request}
 use Rattle.requests.specs.ChoiceParser.{options_at, behind_options, are_single}
 
 -- the numbers of a run of so many steps, each a unit, and of a question about one
@@ -59,14 +58,11 @@ as_plan c = record { kind = c.kind; book = c.book.now; steps = c.steps }
 abbrev pub as_plan_periodic : plan_periodic_in_memory.PlanPeriodic → PlanPeriodic
 as_plan_periodic c = record { book = c.book.now; steps = c.steps; period = c.period }
 
-abbrev pub as_check : check_in_memory.Check → Check
-as_check c = record { book = c.book.now; schedule = c.schedule.now; steps = c.steps }
+abbrev pub as_schedule_for : schedule_for_in_memory.ScheduleFor → ScheduleFor
+as_schedule_for c = record { book = c.book.now; schedule = c.schedule.now; steps = c.steps }
 
 abbrev pub as_certify : certify_in_memory.Certify → Certify
 as_certify c = record { book = c.book.now; schedule = c.schedule.now; certificate = c.certificate.now; steps = c.steps }
-
-abbrev pub as_cost : cost_in_memory.Cost → Cost
-as_cost c = record { book = c.book.now; schedule = c.schedule.now; steps = c.steps }
 
 abbrev pub as_ask : ask_in_memory.Ask → Ask
 as_ask c = record { question = c.question; run = as_run c.run; schedule = c.schedule.now }
@@ -96,9 +92,9 @@ abbrev pub as_command : command_in_memory.Command → Command
 as_command (the_command.Run c) = run (as_run_backward c)
 as_command (the_command.Plan c) = plan (as_plan c)
 as_command (the_command.PlanPeriodic c) = plan_periodic (as_plan_periodic c)
-as_command (the_command.Check c) = check (as_check c)
+as_command (the_command.Check c) = check (as_schedule_for c)
 as_command (the_command.Certify c) = certify (as_certify c)
-as_command (the_command.Cost c) = cost (as_cost c)
+as_command (the_command.Cost c) = cost (as_schedule_for c)
 as_command (the_command.Ask c) = ask (as_ask c)
 as_command (the_command.Find c) = find (as_find c)
 as_command (the_command.Asm c) = asm (as_asm c)

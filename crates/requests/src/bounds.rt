@@ -18,89 +18,52 @@ pub struct Limit {
     pub rule: u16,
 }
 
+// A limit by its least and greatest accepted values.
+macro_rules! limit {
+    ($least:literal..=$greatest:expr, rule $rule:literal) => {
+        Limit {
+            least: $least,
+            greatest: $greatest,
+            rule: $rule,
+        }
+    };
+}
+
 /// Of the pages of the stack.
-pub(crate) const STACK_PAGES: Limit = Limit {
-    least: 1,
-    greatest: 1024,
-    rule: 4,
-};
+pub(crate) const STACK_PAGES: Limit = limit!(1..=1024, rule 4);
 
 /// Of the number of workers.
-pub(crate) const WORKERS: Limit = Limit {
-    least: 1,
-    greatest: 64,
-    rule: 3,
-};
+pub(crate) const WORKERS: Limit = limit!(1..=64, rule 3);
 
 /// Of the instructions in a step of a schedule.
-pub(crate) const UNIT: Limit = Limit {
-    least: 1,
-    greatest: 1024,
-    rule: 12,
-};
+pub(crate) const UNIT: Limit = limit!(1..=1024, rule 12);
 
 /// Of the number of a level with files.
-pub(crate) const LEVEL: Limit = Limit {
-    least: 0,
-    greatest: 3,
-    rule: 5,
-};
+pub(crate) const LEVEL: Limit = limit!(0..=3, rule 5);
 
 /// Of the number of steps.
-pub(crate) const STEPS: Limit = Limit {
-    least: 0,
-    greatest: MOST_STEPS as u64,
-    rule: 1,
-};
+pub(crate) const STEPS: Limit = limit!(0..=MOST_STEPS as u64, rule 1);
 
 /// Of the number of steps of a plan by DiskRevolve.
-const DISK_STEPS: Limit = Limit {
-    least: 0,
-    greatest: 8192,
-    rule: 1,
-};
+const DISK_STEPS: Limit = limit!(0..=8192, rule 1);
 
 /// Of the number of steps of a plan by H-Revolve.
-const NESTED_STEPS: Limit = Limit {
-    least: 0,
-    greatest: 2048,
-    rule: 1,
-};
+const NESTED_STEPS: Limit = limit!(0..=2048, rule 1);
 
 /// Of the number of instructions in a run that a list goes over.
-pub(crate) const INSTRUCTIONS: Limit = Limit {
-    least: 0,
-    greatest: MOST_STEPS as u64,
-    rule: 13,
-};
+pub(crate) const INSTRUCTIONS: Limit = limit!(0..=MOST_STEPS as u64, rule 13);
 
 /// Of a period.
-pub(crate) const PERIOD: Limit = Limit {
-    least: 1,
-    greatest: MOST_STEPS as u64,
-    rule: 2,
-};
+pub(crate) const PERIOD: Limit = limit!(1..=MOST_STEPS as u64, rule 2);
 
 /// Of the slots of a demonstration.
-pub(crate) const SLOTS: Limit = Limit {
-    least: 0,
-    greatest: MOST_SLOTS as u64,
-    rule: 10,
-};
+pub(crate) const SLOTS: Limit = limit!(0..=MOST_SLOTS as u64, rule 10);
 
 /// Of the number that a program is made from.
-pub(crate) const SEED: Limit = Limit {
-    least: 0,
-    greatest: u32::MAX as u64,
-    rule: 11,
-};
+pub(crate) const SEED: Limit = limit!(0..=u32::MAX as u64, rule 11);
 
 /// Of the address of a word.
-const ADDRESS: Limit = Limit {
-    least: 0,
-    greatest: 0xffff_fffc,
-    rule: 7,
-};
+const ADDRESS: Limit = limit!(0..=0xffff_fffc, rule 7);
 
 impl Limit {
     /// A number with these bounds.
@@ -132,14 +95,7 @@ pub(crate) fn question_bound(last: u64, question: Question) -> Bounded
     ensures { result ≡ question_bound last question }
 {
     match question {
-        Question::State(place) => {
-            let limit = Limit {
-                least: 0,
-                greatest: last,
-                rule: 6,
-            };
-            limit.of(place)
-        }
+        Question::State(place) => limit!(0..=last, rule 6).of(place),
         Question::LastWrite(address) | Question::LastChange(address) => {
             ADDRESS.of(u64::from(address))
         }

@@ -2,12 +2,12 @@
 ghost use Rattle.std.specs.Prelude.{map};
 ghost use Rattle.requests.specs.Inputs.{inputs_of};
 ghost use Rattle.requests.specs.InputOutcome.{input_of, ReadsInput, ReadsInputs};
-ghost use Rattle.requests.specs.Request.{run as run_command, find as find_command, console as console_command};
-ghost use Rattle.requests.specs.RequestModel.{as_schedule, as_run, as_find, as_console, as_command};
+ghost use Rattle.requests.specs.Request.{run as run_command, check as check_command, find as find_command, console as console_command};
+ghost use Rattle.requests.specs.RequestModel.{as_schedule, as_run, as_schedule_for, as_find, as_console, as_command};
 
 use crate::input_kind::InputKind;
 use crate::loaded::Loaded;
-use crate::request::{Command, Console, Find, Run};
+use crate::request::{Command, Console, Find, Run, ScheduleFor};
 use crate::schedule::Schedule;
 use endings::Outcome;
 use keepers::{InputFault, Inputs, Whole};
@@ -33,13 +33,7 @@ pub fn read_inputs<I: Inputs>(
         Command::Run(backward) => read_run_inputs(alloc, &backward.run, backward.schedule, inputs),
         Command::Plan(plan) => read_all(alloc, &[InputKind::Book.named(plan.book)], inputs),
         Command::PlanPeriodic(plan) => read_all(alloc, &[InputKind::Book.named(plan.book)], inputs),
-        Command::Check(check) => {
-            let wanted = [
-                InputKind::Book.named(check.book),
-                InputKind::Schedule.named(check.schedule),
-            ];
-            read_all(alloc, &wanted, inputs)
-        }
+        Command::Check(check) => read_schedule_inputs(alloc, check, inputs),
         Command::Certify(certify) => {
             let wanted = [
                 InputKind::Book.named(certify.book),
@@ -48,13 +42,7 @@ pub fn read_inputs<I: Inputs>(
             ];
             read_all(alloc, &wanted, inputs)
         }
-        Command::Cost(cost) => {
-            let wanted = [
-                InputKind::Book.named(cost.book),
-                InputKind::Schedule.named(cost.schedule),
-            ];
-            read_all(alloc, &wanted, inputs)
-        }
+        Command::Cost(cost) => read_schedule_inputs(alloc, cost, inputs),
         Command::Ask(ask) => {
             let schedule = Schedule::Named(ask.schedule);
             read_run_inputs(alloc, &ask.run, schedule, inputs)
@@ -109,6 +97,19 @@ fn read_run_inputs<I: Inputs>(
         }
         (None, Schedule::Made) => read_all(alloc, &[program, book], inputs),
     }
+}
+
+// Reads the book and the schedule for it.
+fn read_schedule_inputs<I: Inputs>(
+    alloc: Global,
+    named: &ScheduleFor<'_>,
+    inputs: &mut I,
+) -> Result<Loaded, Outcome>
+    ensures { ReadsInputs I.Inputs (inputs_of (check_command (as_schedule_for named.now))) result inputs.old inputs.new }
+{
+    let book = InputKind::Book.named(named.book);
+    let schedule = InputKind::Schedule.named(named.schedule);
+    read_all(alloc, &[book, schedule], inputs)
 }
 
 // Reads the inputs of a search of a run.

@@ -34,8 +34,8 @@ pub use crate::options::Options;
 pub use crate::places::{KeepAt, keeper_places};
 pub use crate::question::Question;
 pub use crate::request::{
-    Ask, Asm, Certify, Check, Command, Console, Cost, Demo, Disasm, Find, PlanFor, PlanPeriodic,
-    Request, Run, RunBackward, read_request,
+    Ask, Asm, Certify, Command, Console, Demo, Disasm, Find, PlanFor, PlanPeriodic, Request, Run,
+    RunBackward, ScheduleFor, read_request,
 };
 pub use crate::schedule::Schedule;
 pub use crate::words::Words;

@@ -49,6 +49,16 @@ impl<'a> Operands<'a> {
         }
     }
 
+    // The value of the word that was read. If it has none, nothing more is read.
+    fn taken<T: Copy>(&mut self, value: Option<T>, nothing: T) -> T
+        ensures { MatchOption value ((result ≡ nothing) × (self.new ≡ None)) (λ x. (result ≡ x) × (self.new ≡ self.old)) }
+    {
+        if value.is_none() {
+            self.rest = None;
+        }
+        value.unwrap_or(nothing)
+    }
+
     /// Reads exactly this word.
     #[tactic(auto, unfolding(crate::specs::Forms::front_taken))]
     pub fn word(&mut self, text: &[u8])
@@ -122,13 +132,8 @@ impl<'a> Operands<'a> {
     pub fn number(&mut self) -> u64
         ensures { Takes numbered self.old result self.new }
     {
-        match self.next().and_then(number_in) {
-            Some(number) => number,
-            None => {
-                self.rest = None;
-                0
-            }
-        }
+        let number = self.next().and_then(number_in);
+        self.taken(number, 0)
     }
 
     /// Reads an address.
@@ -136,13 +141,8 @@ impl<'a> Operands<'a> {
     pub fn address(&mut self) -> u32
         ensures { Takes addressed self.old result self.new }
     {
-        match self.next().and_then(read_address) {
-            Some(address) => address,
-            None => {
-                self.rest = None;
-                0
-            }
-        }
+        let address = self.next().and_then(read_address);
+        self.taken(address, 0)
     }
 
     /// Reads a digest.
@@ -150,13 +150,8 @@ impl<'a> Operands<'a> {
     pub fn digest(&mut self) -> [u8; 32]
         ensures { Takes digested self.old result self.new }
     {
-        match self.next().and_then(read_digest) {
-            Some(digest) => digest,
-            None => {
-                self.rest = None;
-                [0; 32]
-            }
-        }
+        let digest = self.next().and_then(read_digest);
+        self.taken(digest, [0; 32])
     }
 
     /// The command, if each word was read.

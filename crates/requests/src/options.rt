@@ -1,9 +1,9 @@
 // The options of a command line.
-ghost use Rattle.std.specs.Prelude.{◌≡◌, map};
+ghost use Rattle.std.specs.Prelude.{◌≡◌, map, find};
 ghost use Rattle.std.specs.List.{list_any};
 ghost use Rattle.line_texts.specs.Prelude.{GivesSome};
 ghost use Rattle.requests.specs.Request.{is_files, says_raw, stack_pages, worker_count, unit_count};
-ghost use Rattle.requests.specs.ChoiceParser.{number_of, stack_of, workers_of, unit_of, files_of, choice_of, first_choice, options_at, behind_options, is_like, are_single, as_choice};
+ghost use Rattle.requests.specs.ChoiceParser.{number_of, files_of, choice_of, first_choice, options_at, behind_options, is_like, are_single, choice_number, number_like, as_choice};
 
 use crate::text::after;
 use line_texts::number_at;
@@ -38,6 +38,16 @@ impl Choice<'_> {
         }
     }
 
+    // Its number: for files, that of the level.
+    fn number(&self) -> u64
+        ensures { result ≡ choice_number (as_choice self.now) }
+    {
+        match self {
+            Choice::Raw => 0,
+            Choice::Stack(n) | Choice::Workers(n) | Choice::Unit(n) | Choice::Files(n, _) => *n,
+        }
+    }
+
     /// Whether it is the option of this level's files.
     pub fn is_files(&self, level: u64) -> bool
         ensures { result ≡ is_files level (as_choice self.now) }
@@ -48,15 +58,6 @@ impl Choice<'_> {
         }
     }
 }
-
-// The default number of the stack's pages.
-const STACK_PAGES: u64 = 16;
-
-// The default number of workers.
-const WORKERS: u64 = 1;
-
-// The default number of instructions in a step of a schedule.
-const UNIT: u64 = 1;
 
 /// Options in the order of the words. They take no memory: they are the words, and are read again for each question.
 #[derive(Debug, Drop)]
@@ -107,42 +108,31 @@ impl<'a> Options<'a> {
     pub fn stack_pages(&self) -> u64
         ensures { result ≡ stack_pages self.now }
     {
-        let mut rest = self.words();
-        while let Some((choice, behind)) = next_option(rest) {
-            if let Choice::Stack(pages) = choice {
-                return pages;
-            }
-            rest = behind;
-        }
-        STACK_PAGES
+        self.number_like(&Choice::Stack(16))
     }
 
     /// How many workers share the work: tables of costs, the search for a digest, or the digests of lines.
     pub fn worker_count(&self) -> u64
         ensures { result ≡ worker_count self.now }
     {
-        let mut rest = self.words();
-        while let Some((choice, behind)) = next_option(rest) {
-            if let Choice::Workers(count) = choice {
-                return count;
-            }
-            rest = behind;
-        }
-        WORKERS
+        self.number_like(&Choice::Workers(1))
     }
 
     /// How many instructions a step of a schedule is.
     pub fn unit_count(&self) -> u64
         ensures { result ≡ unit_count self.now }
     {
-        let mut rest = self.words();
-        while let Some((choice, behind)) = next_option(rest) {
-            if let Choice::Unit(count) = choice {
-                return count;
-            }
-            rest = behind;
+        self.number_like(&Choice::Unit(1))
+    }
+
+    // The number of the option of the same kind, or of this one by default.
+    fn number_like(&self, default: &Choice<'_>) -> u64
+        ensures { result ≡ number_like (as_choice default.now) self.now }
+    {
+        match first_like(self.words(), default) {
+            Some(choice) => choice.number(),
+            None => default.number(),
         }
-        UNIT
     }
 }
 
@@ -150,14 +140,21 @@ impl<'a> Options<'a> {
 fn has_like(words: &[Vec<u8>], choice: &Choice<'_>) -> bool
     ensures { result ≡ list_any (is_like (as_choice choice.now)) (options_at (map (λ w. w.items) words.now)) }
 {
+    first_like(words, choice).is_some()
+}
+
+// The first option of the same kind among those at the front of the words.
+fn first_like<'a>(words: &'a [Vec<u8>], choice: &Choice<'_>) -> Option<Choice<'a>>
+    ensures { GivesSome as_choice result (find (is_like (as_choice choice.now)) (options_at (map (λ w. w.items) words.now))) }
+{
     let mut rest = words;
     while let Some((other, behind)) = next_option(rest) {
         if choice.is_like(&other) {
-            return true;
+            return Some(other);
         }
         rest = behind;
     }
-    false
+    None
 }
 
 /// The number that a whole word spells.
@@ -168,30 +165,6 @@ pub fn number_in(word: &[u8]) -> Option<u64>
         Some(n) => Some(n),
         None => None,
     }
-}
-
-// The option of the stack, after its prefix.
-fn stack_in(text: &[u8]) -> Option<Choice<'_>>
-    ensures { GivesSome as_choice result (stack_of text.now) }
-{
-    let pages = number_in(text)?;
-    Some(Choice::Stack(pages))
-}
-
-// The option of the workers, after its prefix.
-fn workers_in(text: &[u8]) -> Option<Choice<'_>>
-    ensures { GivesSome as_choice result (workers_of text.now) }
-{
-    let count = number_in(text)?;
-    Some(Choice::Workers(count))
-}
-
-// The option of units, after its prefix.
-fn unit_in(text: &[u8]) -> Option<Choice<'_>>
-    ensures { GivesSome as_choice result (unit_of text.now) }
-{
-    let count = number_in(text)?;
-    Some(Choice::Unit(count))
 }
 
 // The option of a level's files, after its prefix.
@@ -216,13 +189,16 @@ fn choice_in(word: &[u8]) -> Option<Choice<'_>>
         return Some(Choice::Raw);
     }
     if let Some(text) = after(word, b"--stack=") {
-        return stack_in(text);
+        let pages = number_in(text)?;
+        return Some(Choice::Stack(pages));
     }
     if let Some(text) = after(word, b"--workers=") {
-        return workers_in(text);
+        let count = number_in(text)?;
+        return Some(Choice::Workers(count));
     }
     if let Some(text) = after(word, b"--unit=") {
-        return unit_in(text);
+        let count = number_in(text)?;
+        return Some(Choice::Unit(count));
     }
     let text = after(word, b"--files=")?;
     files_in(text)

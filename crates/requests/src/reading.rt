@@ -10,8 +10,8 @@ use crate::kind::PlanKind;
 use crate::operands::Operands;
 use crate::question::Question;
 use crate::request::{
-    Ask, Asm, Certify, Check, Command, Console, Cost, Demo, Disasm, Find, PlanFor, PlanPeriodic,
-    Run, RunBackward,
+    Ask, Asm, Certify, Command, Console, Demo, Disasm, Find, PlanFor, PlanPeriodic, Run,
+    RunBackward, ScheduleFor,
 };
 
 /// The command that the words after the options are.
@@ -102,7 +102,7 @@ fn read_check(words: &[Vec<u8>]) -> Option<Command<'_>>
     let book = words.name();
     let schedule = words.schedule_name();
     let steps = words.number();
-    words.finish(Command::Check(Check {
+    words.finish(Command::Check(ScheduleFor {
         book,
         schedule,
         steps,
@@ -134,7 +134,7 @@ fn read_cost(words: &[Vec<u8>]) -> Option<Command<'_>>
     let book = words.name();
     let schedule = words.schedule_name();
     let steps = words.number();
-    words.finish(Command::Cost(Cost {
+    words.finish(Command::Cost(ScheduleFor {
         book,
         schedule,
         steps,

@@ -35,11 +35,11 @@ pub enum Command<'a> {
     /// To write the periodic list.
     PlanPeriodic(PlanPeriodic<'a>),
     /// To judge a schedule.
-    Check(Check<'a>),
+    Check(ScheduleFor<'a>),
     /// To show that no list takes fewer forward steps.
     Certify(Certify<'a>),
     /// To print what a schedule costs.
-    Cost(Cost<'a>),
+    Cost(ScheduleFor<'a>),
     /// To ask something of a run.
     Ask(Ask<'a>),
     /// To find the last state of a run with a digest.
@@ -86,9 +86,9 @@ pub struct PlanPeriodic<'a> {
     pub period: u64,
 }
 
-/// To judge a schedule for a book and so many steps.
+/// A schedule for a book and so many steps: to judge it, or to print what it costs.
 #[derive(Clone, Copy, Debug)]
-pub struct Check<'a> {
+pub struct ScheduleFor<'a> {
     pub book: &'a [u8],
     pub schedule: &'a [u8],
     pub steps: u64,
@@ -100,14 +100,6 @@ pub struct Certify<'a> {
     pub book: &'a [u8],
     pub schedule: &'a [u8],
     pub certificate: &'a [u8],
-    pub steps: u64,
-}
-
-/// To print what a schedule costs, for a book and so many steps.
-#[derive(Clone, Copy, Debug)]
-pub struct Cost<'a> {
-    pub book: &'a [u8],
-    pub schedule: &'a [u8],
     pub steps: u64,
 }
 

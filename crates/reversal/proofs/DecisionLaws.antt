@@ -44,7 +44,7 @@ use Rattle.disk_gen.specs.DiskRevolveList.{IsDiskWritten}
 use Rattle.reversal.specs.Job.{Run, Job, perform, ask as ask_job, seek, write, console, demonstrate}
 use Rattle.reversal.specs.Course.{Shown}
 use Rattle.reversal.specs.Deeds.{silent_deed, writing, Deed, bytes_of, bytes_written, steps_made}
-use Rattle.reversal.specs.Table.{Decision, refuse, accept, Need, Read, Judge, Keep, Plan, IsFirstWide, Tabulate, Table, does, Decided}
+use Rattle.reversal.specs.Table.{Decision, refuse, accept, Need, Read, Judge, Keep, Plan, IsFirstWide, Tabulate, Table, does, reads, weighs, Decided}
 use Rattle.reversal.specs.Decision.{Take, DecidesLoaded, Decides, table_of, course_of}
 use Rattle.reversal.specs.CommandAsk.{answer_text}
 use Rattle.reversal.specs.CommandConsole.{setting_marks, DecidesConsole}
@@ -52,11 +52,11 @@ use Rattle.reverse_console.specs.declared.order.Order.{Order}
 use Rattle.reverse_console.specs.Script.{IsScript}
 use Rattle.reverse_console.specs.ScriptFaults.{HasFirstFault as ScriptFirst}
 use Rattle.reversal.specs.CommandPlan.{DecidesPlanRevolve, DecidesPlanMultistage, DecidesPlanDisk, DecidesPlanHrevolve, DecidesPlanPeriodic}
-use Rattle.reversal.specs.InputMeaning.{HasBookFault, IsStartOf, HasProgramFault, AreItemsOf, HasJournalFault, plans_made, over_list, over_program, DecidesOver, in_units}
+use Rattle.reversal.specs.InputMeaning.{HasBookFault, IsStartOf, HasProgramFault, AreItemsOf, HasJournalFault, plans_made, over_list, over_valid, over_program, DecidesOver, in_units}
 use Rattle.reversal.specs.CommandCost.{DecidesCost}
 use Rattle.reversal.specs.CommandCheck.{DecidesCheck}
 use Rattle.reversal.specs.CommandCertify.{DecidesCertify, least_line}
-use Rattle.reversal.specs.JobModel.{IsRefusal, IsUnweighed}
+use Rattle.reversal.specs.JobModel.{IsRefusal, IsUnjudged, IsUnweighed}
 use Rattle.reversal.proofs.Refusals.{IsRefusing}
 use Rattle.cert_text.specs.declared.certificate.Certificate.{Certificate}
 use Rattle.cert_text.specs.Meaning.{IsCertificateText}
@@ -558,45 +558,38 @@ pub periodic_accepted : (steps period : ℕ) (book : List ℕ) (b : BookCosts) �
     DecidesPlanPeriodic steps period book (accept (write (list_pieces (names_of b) (periodic_list steps period b))))
 periodic_accepted steps period book b is_book two fast slow = inr (b, is_book, inr (two, inr (fast, inr (slow, refl))))
 
-pub check_by_book : (steps : ℕ) (book schedule : List ℕ) (e : Outcome) → IsRefusal (HasBookFault book) bad_book e → (e ≡ no_memory) ⊎ DecidesCheck steps book schedule (refuse e)
-check_by_book steps book schedule e h = read_refuses (IsBookText book) (HasBookFault book) bad_book e _ h
+-- ---- the lines of a valid list
 
-pub check_by_text : (steps : ℕ) (book schedule : List ℕ) (e : Outcome) (b : BookCosts) → IsBookText book b → IsRefusal (HasFirstFault (names_of b) schedule) bad_text e → (e ≡ no_memory) ⊎ DecidesCheck steps book schedule (refuse e)
-check_by_text steps book schedule e b is_book h =
+pub unjudged_by_book : (steps : ℕ) (book schedule : List ℕ) (e : Outcome) → IsRefusal (HasBookFault book) bad_book e → IsUnjudged steps book schedule e
+unjudged_by_book steps book schedule e h = read_refuses (IsBookText book) (HasBookFault book) bad_book e _ h
+
+pub unjudged_by_text : (steps : ℕ) (book schedule : List ℕ) (e : Outcome) (b : BookCosts) → IsBookText book b → IsRefusal (HasFirstFault (names_of b) schedule) bad_text e → IsUnjudged steps book schedule e
+unjudged_by_text steps book schedule e b is_book h =
     read_passes (IsBookText book) (HasBookFault book) bad_book e _ b is_book
     (read_refuses (IsSchedule (names_of b) schedule) (HasFirstFault (names_of b) schedule) bad_text e _ h)
 
-pub check_by_rules : (steps : ℕ) (book schedule : List ℕ) (e : Outcome) (b : BookCosts) (list : List Action) → IsBookText book b → IsSchedule (names_of b) schedule list → IsBroken steps (slots_of b) list e → (e ≡ no_memory) ⊎ DecidesCheck steps book schedule (refuse e)
-check_by_rules steps book schedule e b list is_book is_list h =
+pub unjudged_by_rules : (steps : ℕ) (book schedule : List ℕ) (e : Outcome) (b : BookCosts) (list : List Action) → IsBookText book b → IsSchedule (names_of b) schedule list → IsBroken steps (slots_of b) list e → IsUnjudged steps book schedule e
+unjudged_by_rules steps book schedule e b list is_book is_list h =
     read_passes (IsBookText book) (HasBookFault book) bad_book e _ b is_book
     (read_passes (IsSchedule (names_of b) schedule) (HasFirstFault (names_of b) schedule) bad_text e _ list is_list
     (judge_refuses steps (slots_of b) list e _ h))
 
-pub check_accepted : (steps : ℕ) (book schedule : List ℕ) (b : BookCosts) (list : List Action) → IsBookText book b → IsSchedule (names_of b) schedule list → Valid steps (slots_of b) list →
-    DecidesCheck steps book schedule (accept (write ((codes "valid " ++ decimal (length list) ++ codes "\n") ∷ [])))
-check_accepted steps book schedule b list is_book is_list valid = inr (b, is_book, inr (list, is_list, inr (valid, refl)))
-
--- ---- the lines of a price
-
-pub cost_by_book : (steps : ℕ) (book schedule : List ℕ) (e : Outcome) → IsRefusal (HasBookFault book) bad_book e → (e ≡ no_memory) ⊎ DecidesCost steps book schedule (refuse e)
-cost_by_book steps book schedule e h = read_refuses (IsBookText book) (HasBookFault book) bad_book e _ h
-
-pub cost_by_text : (steps : ℕ) (book schedule : List ℕ) (e : Outcome) (b : BookCosts) → IsBookText book b → IsRefusal (HasFirstFault (names_of b) schedule) bad_text e → (e ≡ no_memory) ⊎ DecidesCost steps book schedule (refuse e)
-cost_by_text steps book schedule e b is_book h =
-    read_passes (IsBookText book) (HasBookFault book) bad_book e _ b is_book
-    (read_refuses (IsSchedule (names_of b) schedule) (HasFirstFault (names_of b) schedule) bad_text e _ h)
-
-pub cost_by_rules : (steps : ℕ) (book schedule : List ℕ) (e : Outcome) (b : BookCosts) (list : List Action) → IsBookText book b → IsSchedule (names_of b) schedule list → IsBroken steps (slots_of b) list e → (e ≡ no_memory) ⊎ DecidesCost steps book schedule (refuse e)
-cost_by_rules steps book schedule e b list is_book is_list h =
-    read_passes (IsBookText book) (HasBookFault book) bad_book e _ b is_book
-    (read_passes (IsSchedule (names_of b) schedule) (HasFirstFault (names_of b) schedule) bad_text e _ list is_list
-    (judge_refuses steps (slots_of b) list e _ h))
-
-pub cost_accepted : (steps : ℕ) (book schedule : List ℕ) (b : BookCosts) (list : List Action) (lines : List (List ℕ)) → IsBookText book b → IsSchedule (names_of b) schedule list → Valid steps (slots_of b) list → lines ≡ list_report b list →
-    DecidesCost steps book schedule (accept (write lines))
-cost_accepted steps book schedule b list lines is_book is_list valid is = inr (b, is_book, inr (list, is_list, inr (valid, ap (λ l. accept (write l)) is)))
-
--- ---- the lines of a certificate
+-- such a refusal is one whatever the lines below say
+pub valid_refuses : (steps : ℕ) (book schedule : List ℕ) (below : BookCosts → List Action → Table) (e : Outcome) → IsUnjudged steps book schedule e → (e ≡ no_memory) ⊎ Decided (over_valid steps book schedule below) (refuse e)
+valid_refuses steps book schedule below e h = elim h [
+  | inl memory ↦ inl memory
+  | inr refused ↦ inr (elim refused [
+    | inl fault ↦ inl fault
+    | inr read ↦ inr (
+      read.0,
+      read.1,
+      elim read.2 [
+        | inl fault ↦ inl fault
+        | inr text ↦ inr (text.0, text.1, elim text.2 [ inl broken ↦ inl broken | inr valid ↦ absurd valid.1 ])
+      ],
+    )
+  ])
+]
 
 judge_passes : (steps : ℕ) (slots : List Slots) (list : List Action) (e : Outcome) (Below : Type 0) → Valid steps slots list → (e ≡ no_memory) ⊎ Below → (e ≡ no_memory) ⊎ Judge steps slots list (refuse e) Below
 judge_passes steps slots list e Below valid h = elim h [
@@ -604,37 +597,53 @@ judge_passes steps slots list e Below valid h = elim h [
   | inr below ↦ inr (inr (valid, below))
 ]
 
-pub certify_by_book : (steps : ℕ) (book schedule certificate : List ℕ) (e : Outcome) → IsRefusal (HasBookFault book) bad_book e → (e ≡ no_memory) ⊎ DecidesCertify steps book schedule certificate (refuse e)
-certify_by_book steps book schedule certificate e h = read_refuses (IsBookText book) (HasBookFault book) bad_book e _ h
-
-pub certify_by_text : (steps : ℕ) (book schedule certificate : List ℕ) (e : Outcome) (b : BookCosts) → IsBookText book b → IsRefusal (HasFirstFault (names_of b) schedule) bad_text e → (e ≡ no_memory) ⊎ DecidesCertify steps book schedule certificate (refuse e)
-certify_by_text steps book schedule certificate e b is_book h =
-    read_passes (IsBookText book) (HasBookFault book) bad_book e _ b is_book
-    (read_refuses (IsSchedule (names_of b) schedule) (HasFirstFault (names_of b) schedule) bad_text e _ h)
-
-pub certify_by_rules : (steps : ℕ) (book schedule certificate : List ℕ) (e : Outcome) (b : BookCosts) (list : List Action) → IsBookText book b → IsSchedule (names_of b) schedule list → IsBroken steps (slots_of b) list e →
-    (e ≡ no_memory) ⊎ DecidesCertify steps book schedule certificate (refuse e)
-certify_by_rules steps book schedule certificate e b list is_book is_list h =
+-- what refuses a valid list
+pub valid_passes : (steps : ℕ) (book schedule : List ℕ) (below : BookCosts → List Action → Table) (e : Outcome) (b : BookCosts) (list : List Action) → IsBookText book b → IsSchedule (names_of b) schedule list →
+    Valid steps (slots_of b) list → (e ≡ no_memory) ⊎ Decided (below b list) (refuse e) → (e ≡ no_memory) ⊎ Decided (over_valid steps book schedule below) (refuse e)
+valid_passes steps book schedule below e b list is_book is_list valid h =
     read_passes (IsBookText book) (HasBookFault book) bad_book e _ b is_book
     (read_passes (IsSchedule (names_of b) schedule) (HasFirstFault (names_of b) schedule) bad_text e _ list is_list
-    (judge_refuses steps (slots_of b) list e _ h))
+    (judge_passes steps (slots_of b) list e _ valid h))
+
+-- ---- the line of a check
+
+pub check_refuses : (steps : ℕ) (book schedule : List ℕ) (e : Outcome) → IsUnjudged steps book schedule e → (e ≡ no_memory) ⊎ DecidesCheck steps book schedule (refuse e)
+check_refuses steps book schedule e h = valid_refuses steps book schedule (λ b list. does (write ((codes "valid " ++ decimal (length list) ++ codes "\n") ∷ []))) e h
+
+pub check_accepted : (steps : ℕ) (book schedule : List ℕ) (b : BookCosts) (list : List Action) → IsBookText book b → IsSchedule (names_of b) schedule list → Valid steps (slots_of b) list →
+    DecidesCheck steps book schedule (accept (write ((codes "valid " ++ decimal (length list) ++ codes "\n") ∷ [])))
+check_accepted steps book schedule b list is_book is_list valid = inr (b, is_book, inr (list, is_list, inr (valid, refl)))
+
+-- ---- the lines of a price
+
+pub cost_refuses : (steps : ℕ) (book schedule : List ℕ) (e : Outcome) → IsUnjudged steps book schedule e → (e ≡ no_memory) ⊎ DecidesCost steps book schedule (refuse e)
+cost_refuses steps book schedule e h = valid_refuses steps book schedule (λ b list. does (write (list_report b list))) e h
+
+pub cost_accepted : (steps : ℕ) (book schedule : List ℕ) (b : BookCosts) (list : List Action) (lines : List (List ℕ)) → IsBookText book b → IsSchedule (names_of b) schedule list → Valid steps (slots_of b) list → lines ≡ list_report b list →
+    DecidesCost steps book schedule (accept (write lines))
+cost_accepted steps book schedule b list lines is_book is_list valid is = inr (b, is_book, inr (list, is_list, inr (valid, ap (λ l. accept (write l)) is)))
+
+-- ---- the lines of a certificate
+
+abbrev certificate_lines : ℕ → List ℕ → BookCosts → List Action → Table
+certificate_lines steps certificate b list =
+    reads (IsCertificateText steps b certificate) (CertificateFirst steps b certificate) bad_certificate (λ k. weighs steps b list k (does (write (least_line (class_of k) ∷ []))))
+
+pub certify_refuses : (steps : ℕ) (book schedule certificate : List ℕ) (e : Outcome) → IsUnjudged steps book schedule e → (e ≡ no_memory) ⊎ DecidesCertify steps book schedule certificate (refuse e)
+certify_refuses steps book schedule certificate e h = valid_refuses steps book schedule (certificate_lines steps certificate) e h
 
 pub certify_by_certificate : (steps : ℕ) (book schedule certificate : List ℕ) (e : Outcome) (b : BookCosts) (list : List Action) → IsBookText book b → IsSchedule (names_of b) schedule list → Valid steps (slots_of b) list →
     IsRefusal (CertificateFirst steps b certificate) bad_certificate e → (e ≡ no_memory) ⊎ DecidesCertify steps book schedule certificate (refuse e)
 certify_by_certificate steps book schedule certificate e b list is_book is_list valid h =
-    read_passes (IsBookText book) (HasBookFault book) bad_book e _ b is_book
-    (read_passes (IsSchedule (names_of b) schedule) (HasFirstFault (names_of b) schedule) bad_text e _ list is_list
-    (judge_passes steps (slots_of b) list e _ valid
-    (read_refuses (IsCertificateText steps b certificate) (CertificateFirst steps b certificate) bad_certificate e _ h)))
+    valid_passes steps book schedule (certificate_lines steps certificate) e b list is_book is_list valid
+    (read_refuses (IsCertificateText steps b certificate) (CertificateFirst steps b certificate) bad_certificate e _ h)
 
 pub certify_by_weight : (steps : ℕ) (book schedule certificate : List ℕ) (e : Outcome) (b : BookCosts) (list : List Action) (k : Certificate) → IsBookText book b → IsSchedule (names_of b) schedule list → Valid steps (slots_of b) list → IsCertificateText steps b certificate k →
     IsUnweighed steps b list k e → (e ≡ no_memory) ⊎ DecidesCertify steps book schedule certificate (refuse e)
 certify_by_weight steps book schedule certificate e b list k is_book is_list valid is_certificate h =
-    read_passes (IsBookText book) (HasBookFault book) bad_book e _ b is_book
-    (read_passes (IsSchedule (names_of b) schedule) (HasFirstFault (names_of b) schedule) bad_text e _ list is_list
-    (judge_passes steps (slots_of b) list e _ valid
+    valid_passes steps book schedule (certificate_lines steps certificate) e b list is_book is_list valid
     (read_passes (IsCertificateText steps b certificate) (CertificateFirst steps b certificate) bad_certificate e _ k is_certificate
-    (weigh_refuses steps b list k e _ h))))
+    (weigh_refuses steps b list k e _ h))
 
 pub certify_accepted : (steps : ℕ) (book schedule certificate : List ℕ) (b : BookCosts) (list : List Action) (k : Certificate) → IsBookText book b → IsSchedule (names_of b) schedule list → Valid steps (slots_of b) list → IsCertificateText steps b certificate k →
     IsAccepted list steps b k → DecidesCertify steps book schedule certificate (accept (write (least_line (class_of k) ∷ [])))

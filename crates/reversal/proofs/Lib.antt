@@ -30,6 +30,7 @@ pub mod JobResults
 pub mod WithinSlots
 pub mod ConsoleProgress
 pub mod QuestionProgress
+pub mod LastAnswers
 pub mod BookTexts
 pub mod Lengths
 pub mod ClassPlans

@@ -7,7 +7,8 @@ use Rattle.plan_types.specs.declared.limits.TheConstants.{MOST_ACTIONS, MOST_COS
 use Rattle.plan_types.specs.declared.action.Action.{Action}
 use Rattle.level_book.specs.BookCosts.{BookCosts, slots_of, names_of, total_room, plain}
 use Rattle.level_book.specs.Valid.{Valid}
-use Rattle.keepers.specs.Claims.{Images}
+use Rattle.keepers.specs.Claims.{Images, Tells, AddsPrefix}
+use Rattle.keepers.specs.Counts.{raised, Rose}
 use Rattle.keepers.specs.declared.sink.Sink as sink
 use Rattle.keepers.specs.declared.storage.Storage as storage
 pub use Rattle.input_journal.specs.RecordedInput.{text_of}
@@ -36,11 +37,13 @@ use Rattle.cost_fold.specs.CountsOf.{all_of}
 use Rattle.cost_report.specs.Report.{report_lines}
 use Rattle.reversal.specs.ActionsLeft.{left_of}
 use Rattle.reversal.specs.Plans.{list_pieces}
+use Rattle.reversal.specs.Output.{Adds}
+use Rattle.reversal.specs.CommandAsk.{answer_text}
 use Rattle.reversal.specs.Listing.{word_pieces}
 use Rattle.requests.specs.Operands.{question_bound}
 use Rattle.requests.specs.Bounds.{IsWithin}
 use Rattle.requests.specs.Request.{Choice, stack_pages, unit_count}
-use Rattle.reversal.specs.Table.{Decision, accept, refuse}
+use Rattle.reversal.specs.Table.{Decision, accept, refuse, ends, Decided}
 use Rattle.reverse_runner.specs.Rooms.{rooms_by}
 use Rattle.reverse_runner.specs.SessionOfRun.{begun, StandsAt}
 use Rattle.reverse_runner.specs.SessionState.{SessionState}
@@ -48,11 +51,11 @@ use Rattle.reversal.specs.Job.{Run, Job, perform, ask, seek, write, console, dem
 use Rattle.reversal.specs.Moment.{Moment, moment, AllTell}
 use Rattle.reversal.specs.Course.{Course, EndsShowing, HaltsShowing}
 use Rattle.requests.specs.Loaded.{Loaded}
-use Rattle.reversal.specs.InputMeaning.{in_units, DecidesOver}
+use Rattle.reversal.specs.InputMeaning.{in_units, over_valid, DecidesOver}
 use Rattle.reversal.specs.Decision.{course_of, KeepsOthers, HaveRoomsFor}
 use Rattle.reverse_runner.specs.declared.fault.RunFault.{RunFault}
 use Rattle.reverse_runner.specs.declared.fault.RunFault.TheVariants as fault
-use Rattle.endings.specs.Outcomes.{no_memory, not_least, keeper_failed, damaged, stopped}
+use Rattle.endings.specs.Outcomes.{done, no_memory, not_least, keeper_failed, damaged, stopped}
 use Rattle.endings.specs.Endings.{status_of}
 
 -- the writes of a certificate, if there is one
@@ -192,6 +195,10 @@ pub record RunFits (options : List Choice) (count : ℕ) : Type 0 where
 abbrev pub IsRefusal : {F : Type 0} → (F → Type 0) → (F → Outcome) → Outcome → Type 0
 IsRefusal {F} HasFault ended e = (e ≡ no_memory) ⊎ ((fault : F) × HasFault fault × (e ≡ ended fault))
 
+-- why the bytes of a schedule aren't a valid list over the book that others mean: a refusal, or no memory
+abbrev pub IsUnjudged : ℕ → List ℕ → List ℕ → Outcome → Type 0
+IsUnjudged steps book schedule e = (e ≡ no_memory) ⊎ Decided (over_valid steps book schedule (λ b list. ends (λ d. ⊥))) (refuse e)
+
 -- why a list isn't shown to be least: the first reason against its certificate, or no memory
 abbrev pub IsUnweighed : ℕ → BookCosts → List Action → Certificate → Outcome → Type 0
 IsUnweighed steps book list certificate e =
@@ -232,6 +239,12 @@ pub record IsBegun (s : SessionState) (list : List Action) (counts : List ℕ) :
   pub valid : Valid s.situation.steps s.situation.slots list
   pub few : length list ≤ MOST_ACTIONS
   pub room : HaveRoom s.situation.steps s.situation.slots counts
+
+-- An answer was written, in one call of the sink. Or the sink failed, and perhaps a part of it was written.
+pub record WritesAnswer {X : Type 0} (writing : sink.Ghosts X) (answer : Option ℕ) (result : Outcome) (out out' : X) : Type 0 where
+  pub ends : ((result ≡ done) × Tells (writing.told out) (writing.told out') (Adds (answer_text answer)) × (writing.fault_count out' ≡ writing.fault_count out))
+      ⊎ ((result ≡ stopped 0) × Tells (writing.told out) (writing.told out') (AddsPrefix (answer_text answer)) × Rose (writing.fault_count out) (writing.fault_count out'))
+  pub calls : writing.call_count out' ≡ raised (writing.call_count out) 1
 
 -- How a call ends if its session refused the action at a place for this fault. A session that has ended refuses none.
 abbrev pub fault_ending : ℕ → RunFault → Outcome

@@ -1,6 +1,6 @@
 // The actions of a performance, one after the other.
 ghost use Rattle.std.specs.Prelude.{◌≡◌, [], ◌∷◌, MatchOption};
-ghost use Rattle.reversal.specs.ActionsLeft.{left_of};
+ghost use Rattle.reversal.specs.Prelude.{left_of};
 
 use disk_gen::Periodic;
 use multistage_gen::Multistage;

@@ -1,16 +1,10 @@
 // A question about a run, and how it is answered.
-ghost use Rattle.std.specs.Prelude.{◌≡◌, ◌≢◌, ◌⊎◌, ◌≤◌, ◌<◌, ◌+◌, ◌*◌, map};
+ghost use Rattle.std.specs.Prelude.{◌≡◌, ◌≢◌, ◌≤◌, ◌<◌, ◌+◌, ◌*◌, IfOk, IfErr};
 ghost use Rattle.level_book.specs.Prelude.{slots_of};
-ghost use Rattle.rv_pages.specs.declared.pages.TheConstants.{LAST_WORD};
-ghost use Rattle.keepers.specs.Prelude.{Tells, AddsPrefix, Rose, raised};
-ghost use Rattle.reverse_runner.specs.Prelude.{HaveRoom};
-ghost use Rattle.endings.specs.Prelude.{done, stopped};
+ghost use Rattle.reverse_runner.specs.Prelude.{HaveRoom, slot_counts};
 ghost use Rattle.reverse_runner.specs.declared.fault.RunFault.TheVariants as fault_is;
 ghost use Rattle.requests.specs.declared.question.Question.TheVariants as about;
-ghost use Rattle.reversal.specs.Output.{Adds};
-ghost use Rattle.reversal.specs.Job.{ask};
-ghost use Rattle.reversal.specs.CommandAsk.{answer_text};
-ghost use Rattle.reversal.specs.JobModel.{run_over, run_from, CanBeAsked, Does, DoesBegun, IsBegun, fault_ending};
+ghost use Rattle.reversal.specs.Prelude.{ask, run_over, run_from, CanBeAsked, WritesAnswer, Does, DoesBegun, IsBegun, fault_ending};
 
 use crate::job::fault_ending;
 use endings::Outcome;
@@ -54,7 +48,7 @@ impl Asking {
         counter: &mut Steps<L>,
     ) -> Outcome
         requires can_be_asked { CanBeAsked self }
-        requires room { HaveRoom self.over.steps (slots_of self.over.book) (map K.slot_count keepers.old.items) }
+        requires room { HaveRoom self.over.steps (slots_of self.over.book) (slot_counts K.Storage keepers.old.items) }
         ensures { Does O.Sink K.Storage (ask self.question (run_over self.over)) result out.old out.new keepers.old keepers.new counter.old counter.new }
     {
         let question = self.question;
@@ -75,10 +69,12 @@ impl Asking {
                 show_state(&mut session, &list, keepers, place as u32, out, counter)
             }
             Question::LastWrite(address) => {
-                tell_last_write(&mut session, &list, keepers, address, out, counter)
+                let found = last_write(&mut session, &list, keepers, address, counter);
+                tell(found, &session, out)
             }
             Question::LastChange(address) => {
-                tell_last_change(&mut session, &list, keepers, address, out, counter)
+                let found = last_change(&mut session, &list, keepers, address, counter);
+                tell(found, &session, out)
             }
         }
     }
@@ -93,7 +89,7 @@ fn show_state<K: Keeper, O: Sink, L: Ledger>(
     out: &mut O,
     counter: &mut Steps<L>,
 ) -> Outcome
-    requires begun { IsBegun session.old list.now (map K.slot_count keepers.old.items) }
+    requires begun { IsBegun session.old list.now (slot_counts K.Storage keepers.old.items) }
     requires place { place ≤ session.old.unit * session.old.situation.steps }
     ensures { DoesBegun O.Sink K.Storage (ask (about.State place) (run_from session.old list.now)) result out.old out.new
         keepers.old.items keepers.new.items counter.old counter.new }
@@ -105,41 +101,13 @@ fn show_state<K: Keeper, O: Sink, L: Ledger>(
     }
 }
 
-// Writes the number of the last step that writes a byte of a word, or that there is none.
-fn tell_last_write<K: Keeper, O: Sink, L: Ledger>(
-    session: &mut Session,
-    list: &[Action],
-    keepers: &mut Vec<K>,
-    address: u32,
-    out: &mut O,
-    counter: &mut Steps<L>,
-) -> Outcome
-    requires begun { IsBegun session.old list.now (map K.slot_count keepers.old.items) }
-    requires address { address ≤ LAST_WORD }
-    ensures { DoesBegun O.Sink K.Storage (ask (about.LastWrite address) (run_from session.old list.now)) result out.old out.new
-        keepers.old.items keepers.new.items counter.old counter.new }
+// Writes the number that a search found, or that there is none. If it was refused, the call ends by its fault.
+fn tell<O: Sink>(found: Result<Option<u32>, RunFault>, session: &Session, out: &mut O) -> Outcome
+    requires { IfErr found (λ fault. (fault ≢ fault_is.Ended) × (session.now.done < 18446744073709551615)) }
+    ensures answered { IfOk found (λ answer. WritesAnswer O.Sink answer result out.old out.new) }
+    ensures refused { IfErr found (λ fault. (result ≡ fault_ending (session.now.done + 1) fault) × (out.new ≡ out.old)) }
 {
-    match last_write(session, list, keepers, address, counter) {
-        Ok(answer) => write_answer(answer, out),
-        Err(fault) => refused(session, fault),
-    }
-}
-
-// Writes the number of the last step that changes a byte of a word, or that there is none.
-fn tell_last_change<K: Keeper, O: Sink, L: Ledger>(
-    session: &mut Session,
-    list: &[Action],
-    keepers: &mut Vec<K>,
-    address: u32,
-    out: &mut O,
-    counter: &mut Steps<L>,
-) -> Outcome
-    requires begun { IsBegun session.old list.now (map K.slot_count keepers.old.items) }
-    requires address { address ≤ LAST_WORD }
-    ensures { DoesBegun O.Sink K.Storage (ask (about.LastChange address) (run_from session.old list.now)) result out.old out.new
-        keepers.old.items keepers.new.items counter.old counter.new }
-{
-    match last_change(session, list, keepers, address, counter) {
+    match found {
         Ok(answer) => write_answer(answer, out),
         Err(fault) => refused(session, fault),
     }
@@ -156,10 +124,7 @@ fn refused(session: &Session, fault: RunFault) -> Outcome
 
 /// Writes the number of a step or of a state, or that there is none.
 pub fn write_answer<O: Sink>(answer: Option<u32>, out: &mut O) -> Outcome
-    ensures ends { ((result ≡ done) × Tells (O.told out.old) (O.told out.new) (Adds (answer_text answer)) × (O.fault_count out.new ≡ O.fault_count out.old))
-        ⊎ ((result ≡ stopped 0) × Tells (O.told out.old) (O.told out.new) (AddsPrefix (answer_text answer))
-        × Rose (O.fault_count out.old) (O.fault_count out.new)) }
-    ensures calls { O.call_count out.new ≡ raised (O.call_count out.old) 1 }
+    ensures { WritesAnswer O.Sink answer result out.old out.new }
 {
     let mut line = Line::new();
     match answer {

@@ -1,7 +1,6 @@
 // The words of a source of instructions, as bytes.
 ghost use Rattle.std.specs.Prelude.{◌≡◌, ℕ, ◌≤◌, List, length, IfOk};
-ghost use Rattle.reversal.specs.CommandAsm.{word_bytes, DecidesAsm};
-ghost use Rattle.reversal.specs.JobModel.{IsDecided};
+ghost use Rattle.reversal.specs.Prelude.{word_bytes, DecidesAsm, IsDecided};
 
 use crate::job::Job;
 use endings::Outcome;

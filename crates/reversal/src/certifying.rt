@@ -5,10 +5,9 @@ ghost use Rattle.level_book.specs.Prelude.{Valid};
 ghost use Rattle.cert_text.specs.Prelude.{IsCertificateText, HasFirstFault};
 ghost use Rattle.bound_cert.specs.Prelude.{class_of, IsAccepted};
 ghost use Rattle.endings.specs.Prelude.{bad_certificate};
-ghost use Rattle.reversal.specs.CommandCertify.{least_line, DecidesCertify};
-ghost use Rattle.reversal.specs.JobModel.{IsRefusal, IsUnweighed, IsDecided};
+ghost use Rattle.reversal.specs.Prelude.{least_line, DecidesCertify, IsRefusal, IsUnweighed, IsDecided};
 
-use crate::decision::{book_in, judge, list_in};
+use crate::decision::valid_in;
 use crate::job::Job;
 use bound_cert::{CertVerdict, Class, check_certificate};
 use cert_text::{Certificate, read_certificate};
@@ -30,9 +29,7 @@ pub fn decide_certify(
     requires small { length certificate.now ≤ 536870912 }
     ensures { (counts : List ℕ) → IsDecided (DecidesCertify steps book.now schedule.now certificate.now) counts result }
 {
-    let book = book_in(alloc, book)?;
-    let list = list_in(alloc, schedule, &book)?;
-    judge(alloc, &list, steps, &book)?;
+    let (book, list) = valid_in(alloc, steps, book, schedule)?;
     let certificate = certificate_in(alloc, certificate, steps, &book)?;
     let class = weigh(alloc, &list, steps, &book, &certificate)?;
     Ok(Job::Write(least_line(class)))

@@ -1,15 +1,14 @@
 // Moving about in a run by the orders of a script.
-ghost use Rattle.std.specs.Prelude.{◌≡◌, ◌<◌, ◌≤◌, ◌^◌, ℕ, map, max, length, slice_get, Some, IfOk, IfErr, OnOk};
+ghost use Rattle.std.specs.Prelude.{◌≡◌, ◌<◌, ◌≤◌, ◌^◌, ℕ, max, length, slice_get, Some, IfOk, IfErr, OnOk};
 ghost use Rattle.std.specs.Vec.{vec_len};
 ghost use Rattle.plan_types.specs.declared.limits.TheConstants.{MOST_STEPS};
 ghost use Rattle.level_book.specs.Prelude.{slots_of, total_room};
-ghost use Rattle.reverse_runner.specs.Prelude.{HaveRoom};
+ghost use Rattle.reverse_runner.specs.Prelude.{HaveRoom, slot_counts};
 ghost use Rattle.reverse_console.specs.declared.order.Order.{Order as AnOrder};
 ghost use Rattle.reverse_console.specs.Prelude.{IsOrder, IsScript, HasFirstFault};
 ghost use Rattle.endings.specs.Prelude.{no_plan, bad_script};
 ghost use Rattle.requests.specs.Prelude.{stack_pages, IsWithinLimits, contents_of};
-ghost use Rattle.reversal.specs.CommandConsole.{DecidesConsole};
-ghost use Rattle.reversal.specs.JobModel.{moves, CanAnswerOrders, IsRefusal, Does, text_of, IsDecided};
+ghost use Rattle.reversal.specs.Prelude.{DecidesConsole, moves, CanAnswerOrders, IsRefusal, Does, text_of, IsDecided};
 
 use crate::decision::{book_in, journal_in, keep, start_of};
 use crate::job::{Job, fault_ending};
@@ -41,7 +40,7 @@ impl ConsoleRun {
         counter: &mut Steps<L>,
     ) -> Outcome
         requires can_be_done { CanAnswerOrders self }
-        requires room { HaveRoom (max self.run.count 1) (slots_of self.run.book) (map K.slot_count keepers.old.items) }
+        requires room { HaveRoom (max self.run.count 1) (slots_of self.run.book) (slot_counts K.Storage keepers.old.items) }
         ensures { Does O.Sink K.Storage (moves self) result out.old out.new keepers.old keepers.new counter.old counter.new }
     {
         let ConsoleRun { run, orders } = self;

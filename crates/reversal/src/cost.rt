@@ -4,15 +4,9 @@ ghost use Rattle.plan_types.specs.declared.limits.TheConstants.{MOST_ACTIONS, MO
 ghost use Rattle.level_book.specs.Prelude.{slots_of, Valid};
 ghost use Rattle.cost_fold.specs.Prelude.{all_of};
 ghost use Rattle.cost_report.specs.Prelude.{report_lines};
-ghost use Rattle.reversal.specs.Job.{write};
-ghost use Rattle.reversal.specs.Moment.{Moment, beside};
-ghost use Rattle.reversal.specs.Course.{EndsShowing};
-ghost use Rattle.reversal.specs.Decision.{course_of};
-ghost use Rattle.reversal.specs.CommandCost.{DecidesCost};
-ghost use Rattle.reversal.specs.JobModel.{IsDecided};
-ghost use Rattle.reversal.specs.CostReport.{list_report};
+ghost use Rattle.reversal.specs.Prelude.{write, Moment, beside, EndsShowing, course_of, DecidesCost, IsDecided, list_report};
 
-use crate::decision::{book_in, judge, list_in};
+use crate::decision::valid_in;
 use crate::job::Job;
 use cost_fold::{Counts, tally};
 use cost_report::report;
@@ -50,9 +44,7 @@ pub fn decide_cost(alloc: Global, steps: u32, book: &[u8], schedule: &[u8]) -> R
     requires short { length schedule.now ≤ 536870912 }
     ensures { (counts : List ℕ) → IsDecided (DecidesCost steps book.now schedule.now) counts result }
 {
-    let book = book_in(alloc, book)?;
-    let list = list_in(alloc, schedule, &book)?;
-    judge(alloc, &list, steps, &book)?;
+    let (book, list) = valid_in(alloc, steps, book, schedule)?;
     let counts = counts_of(&list, steps, &book);
     Ok(Job::Report(CostReport { counts, book }))
 }

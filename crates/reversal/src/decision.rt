@@ -7,12 +7,7 @@ ghost use Rattle.action_text.specs.Prelude.{IsSchedule, HasFirstFault};
 ghost use Rattle.reverse_runner.specs.Prelude.{HaveRoom};
 ghost use Rattle.endings.specs.Prelude.{no_memory, bad_program, bad_journal, bad_book, bad_text, invalid};
 ghost use Rattle.requests.specs.Prelude.{run as run_command, ask as ask_command, says_raw, stack_pages, worker_count, unit_count, question_bound, numbers, IsWithin, request_of, as_run_backward, as_ask, IsWithinLimits, contents_of};
-ghost use Rattle.reversal.specs.Table.{refuse, Keep};
-ghost use Rattle.reversal.specs.InputMeaning.{HasBookFault, IsStartOf, HasProgramFault, AreItemsOf, HasJournalFault};
-ghost use Rattle.reversal.specs.Decision.{DecidesLoaded};
-ghost use Rattle.reversal.specs.CommandCheck.{DecidesCheck};
-ghost use Rattle.reversal.specs.Job.{perform};
-ghost use Rattle.reversal.specs.JobModel.{run_over, job_of, IsOver, CanBeDone, HasWorkers, KeepersHaveRoom, IsRefusal, text_of, IsDecided, IsDecidedOver, RunFits};
+ghost use Rattle.reversal.specs.Prelude.{refuse, Keep, HasBookFault, IsStartOf, HasProgramFault, AreItemsOf, HasJournalFault, DecidesLoaded, DecidesCheck, perform, run_over, job_of, IsOver, CanBeDone, HasWorkers, KeepersHaveRoom, IsRefusal, IsUnjudged, text_of, IsDecided, IsDecidedOver, RunFits};
 
 use crate::actions::{Actions, Listed};
 use crate::asking::{Asking, Over};
@@ -119,22 +114,14 @@ fn performance(over: Over, workers: u32) -> Job
     ensures workers { HasWorkers workers result }
     ensures room { (counts : List ℕ) → HaveRoom over.steps (slots_of over.book) counts → KeepersHaveRoom result counts }
 {
-    let Over {
-        start,
-        journal,
-        unit,
-        steps,
-        book,
-        list,
-    } = over;
     Job::Perform(Performance {
-        start,
-        journal,
-        unit,
+        start: over.start,
+        journal: over.journal,
+        unit: over.unit,
         workers,
-        steps,
-        book,
-        actions: Actions::Listed(Listed::new(list)),
+        steps: over.steps,
+        book: over.book,
+        actions: Actions::Listed(Listed::new(over.list)),
     })
 }
 
@@ -191,9 +178,7 @@ fn decide_check(alloc: Global, steps: u32, book: &[u8], schedule: &[u8]) -> Resu
     requires short { length schedule.now ≤ 536870912 }
     ensures { (counts : List ℕ) → IsDecided (DecidesCheck steps book.now schedule.now) counts result }
 {
-    let book = book_in(alloc, book)?;
-    let list = list_in(alloc, schedule, &book)?;
-    judge(alloc, &list, steps, &book)?;
+    let (_, list) = valid_in(alloc, steps, book, schedule)?;
     Ok(Job::Write(valid_line(list.len())))
 }
 
@@ -206,6 +191,26 @@ fn valid_line(count: usize) -> Line
     line.push_decimal(count as u64);
     line.push(b"\n");
     line
+}
+
+// The book that bytes mean, and the list that those of a schedule mean over it, which is valid.
+pub(crate) fn valid_in(
+    alloc: Global,
+    steps: u32,
+    book: &[u8],
+    schedule: &[u8],
+) -> Result<(Book, Vec<Action>), Outcome>
+    requires steps { steps ≤ MOST_STEPS }
+    requires short { length schedule.now ≤ 536870912 }
+    ensures book { IfOk result (λ found. IsBookText book.now found.0) }
+    ensures list { IfOk result (λ found. IsSchedule (names_of found.0) schedule.now found.1.items) }
+    ensures valid { IfOk result (λ found. Valid steps (slots_of found.0) found.1.items) }
+    ensures refused { IfErr result (IsUnjudged steps book.now schedule.now) }
+{
+    let book = book_in(alloc, book)?;
+    let list = list_in(alloc, schedule, &book)?;
+    judge(alloc, &list, steps, &book)?;
+    Ok((book, list))
 }
 
 // The book that bytes mean.
@@ -272,7 +277,7 @@ pub(crate) fn journal_in(alloc: Global, bytes: Option<Vec<u8>>) -> Result<Journa
 }
 
 // The list that the bytes of a schedule mean over the levels of a book.
-pub(crate) fn list_in(alloc: Global, bytes: &[u8], book: &Book) -> Result<Vec<Action>, Outcome>
+fn list_in(alloc: Global, bytes: &[u8], book: &Book) -> Result<Vec<Action>, Outcome>
     requires { length bytes.now ≤ 536870912 }
     ensures found { IfOk result (λ list. IsSchedule (names_of book.now) bytes.now list.items) }
     ensures refused { IfErr result (IsRefusal (HasFirstFault (names_of book.now) bytes.now) bad_text) }
@@ -284,7 +289,7 @@ pub(crate) fn list_in(alloc: Global, bytes: &[u8], book: &Book) -> Result<Vec<Ac
 }
 
 // Judges a list.
-pub(crate) fn judge(alloc: Global, list: &[Action], steps: u32, book: &Book) -> Result<(), Outcome>
+fn judge(alloc: Global, list: &[Action], steps: u32, book: &Book) -> Result<(), Outcome>
     requires { steps ≤ MOST_STEPS }
     ensures valid { OnOk result (Valid steps (slots_of book.now) list.now) }
     ensures broken { IfErr result (λ e. (e ≡ no_memory) ⊎ ((place : ℕ) × (rule : ℕ) × (level : ℕ) × (e ≡ invalid place level rule)

@@ -10,16 +10,11 @@ ghost use Rattle.elf_load.specs.Prelude.{IsRawProgram};
 ghost use Rattle.reverse_runner.specs.Prelude.{begun};
 ghost use Rattle.endings.specs.Prelude.{no_memory};
 ghost use Rattle.sha2.specs.Sha256.{sha256};
-ghost use Rattle.reversal.specs.DemoStates.{IsAtStart, BreaksWithin};
-ghost use Rattle.reversal.specs.Job.{demonstrate};
-ghost use Rattle.reversal.specs.Moment.{Moment, beside};
-ghost use Rattle.reversal.specs.CommandDemo.{DecidesDemo};
-ghost use Rattle.reversal.specs.Demo.{drawn, instruction_of, program, demo_list, summary_text};
-ghost use Rattle.reversal.specs.Output.{lines_down};
-ghost use Rattle.reversal.specs.JobModel.{IsShowable, Works, IsDecided};
+ghost use Rattle.reversal.specs.Prelude.{IsAtStart, BreaksWithin, demonstrate, Moment, beside, DecidesDemo, drawn, instruction_of, program, demo_list, summary_text, lines_down, IsShowable, Works, IsDecided};
 
 use crate::job::Job;
 use crate::line_hasher::LineHasher;
+use cost_report::push_count;
 use elf_load::load_raw;
 use endings::Outcome;
 use input_journal::Journal;
@@ -268,25 +263,15 @@ fn summary(number: u32, steps: u32, slots: u32, digest: &[u8; 32]) -> Line
     ensures { result ≡ summary_text number steps slots (forward (demo_list steps slots)) digest.now }
 {
     let mut line = Line::new();
-    push_number(&mut line, b"demo ", number as u64);
-    push_number(&mut line, b" ", steps as u64);
-    push_number(&mut line, b" ", slots as u64);
-    push_number(&mut line, b"\nforward ", forward_steps(steps, slots));
-    push_number(&mut line, b"\nlines ", steps as u64 + 1);
+    push_count(&mut line, b"demo ", number as u64);
+    push_count(&mut line, b" ", steps as u64);
+    push_count(&mut line, b" ", slots as u64);
+    push_count(&mut line, b"\nforward ", forward_steps(steps, slots));
+    push_count(&mut line, b"\nlines ", steps as u64 + 1);
     line.push(b"\nsha256");
     push_digest(&mut line, digest);
     line.push(b"\n");
     line
-}
-
-// Adds a text and a number.
-fn push_number(line: &mut Line, before: &[u8], n: u64)
-    requires { length line.old + length before.now ≤ 400 }
-    ensures text { line.new ≡ line.old ++ before.now ++ decimal n }
-    ensures short { length line.new ≤ length line.old + length before.now + 20 }
-{
-    line.push(before);
-    line.push_decimal(n);
 }
 
 // The forward steps of the list.

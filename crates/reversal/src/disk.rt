@@ -4,14 +4,12 @@ ghost use Rattle.level_book.specs.Prelude.{IsGreatestDisk};
 ghost use Rattle.cost_tables.specs.Prelude.{FastestTablesFit};
 ghost use Rattle.disk_gen.specs.Prelude.{HasDiskPlan, AreDiskFor, disk_tables_in};
 ghost use Rattle.endings.specs.Prelude.{no_memory};
-ghost use Rattle.reversal.specs.CommandPlan.{DecidesPlanDisk};
-ghost use Rattle.reversal.specs.JobModel.{IsDecided};
-ghost use Rattle.reversal.specs.NoPlans.{IsUndisked};
+ghost use Rattle.reversal.specs.Prelude.{DecidesPlanDisk, IsDecided, IsUndisked};
 
 use crate::actions::{Actions, Listed};
 use crate::decision::book_in;
 use crate::job::Job;
-use crate::planning::certified_text;
+use crate::planning::plan_text;
 use bound_cert::certify_disk;
 use disk_gen::{DiskTables, disk_list};
 use endings::Outcome;
@@ -50,7 +48,12 @@ pub fn disk_text<R: Threads + Sync>(
     let list = disk_list(alloc, &tables, steps, &book)?;
     book.is_within_limits();
     let certificate = certify_disk(tables);
-    let job = certified_text(alloc, Actions::Listed(Listed::new(list)), book, certificate)?;
+    let job = plan_text(
+        alloc,
+        Actions::Listed(Listed::new(list)),
+        book,
+        Some(certificate),
+    )?;
     Ok(job)
 }
 

@@ -2,11 +2,7 @@
 ghost use Rattle.std.specs.Prelude.{ℕ, ◌≤◌, List};
 ghost use Rattle.plan_types.specs.declared.limits.TheConstants.{MOST_STEPS};
 ghost use Rattle.requests.specs.Prelude.{stack_pages, worker_count};
-ghost use Rattle.reversal.specs.Job.{seek};
-ghost use Rattle.reversal.specs.Moment.{Moment, beside};
-ghost use Rattle.reversal.specs.Table.{Decided};
-ghost use Rattle.reversal.specs.CommandFind.{find_table};
-ghost use Rattle.reversal.specs.JobModel.{IsSearchable, Works, text_of, IsDecided};
+ghost use Rattle.reversal.specs.Prelude.{seek, Moment, beside, Decided, find_table, IsSearchable, Works, text_of, IsDecided};
 
 use crate::asking::write_answer;
 use crate::decision::{journal_in, start_of};

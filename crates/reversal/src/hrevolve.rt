@@ -4,15 +4,12 @@ ghost use Rattle.level_book.specs.Prelude.{room, slots_of, Nested, IsGreatest};
 ghost use Rattle.cost_tables.specs.Prelude.{AreFor, TablesFit, tables_in};
 ghost use Rattle.hrevolve_gen.specs.Prelude.{IsWritten, HasNestedPlan};
 ghost use Rattle.endings.specs.Prelude.{no_memory};
-ghost use Rattle.reversal.specs.Table.{IsFirstWide};
-ghost use Rattle.reversal.specs.CommandPlan.{DecidesPlanHrevolve};
-ghost use Rattle.reversal.specs.JobModel.{IsDecided};
-ghost use Rattle.reversal.specs.NoPlans.{IsUnnested};
+ghost use Rattle.reversal.specs.Prelude.{IsFirstWide, DecidesPlanHrevolve, IsDecided, IsUnnested};
 
 use crate::actions::{Actions, Listed};
 use crate::decision::book_in;
 use crate::job::Job;
-use crate::planning::certified_text;
+use crate::planning::plan_text;
 use bound_cert::certify_nested;
 use cost_tables::Tables;
 use endings::Outcome;
@@ -51,7 +48,12 @@ pub fn hrevolve_text<R: Threads + Sync>(
     let list = list_for(alloc, &tables, steps, &book)?;
     book.is_within_limits();
     let certificate = certify_nested(tables);
-    let job = certified_text(alloc, Actions::Listed(Listed::new(list)), book, certificate)?;
+    let job = plan_text(
+        alloc,
+        Actions::Listed(Listed::new(list)),
+        book,
+        Some(certificate),
+    )?;
     Ok(job)
 }
 

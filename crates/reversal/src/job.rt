@@ -1,18 +1,12 @@
 // What an accepted call is to do.
-ghost use Rattle.std.specs.Prelude.{◌≡◌, ◌≢◌, ℕ, [], ◌∷◌, length, map, Option};
+ghost use Rattle.std.specs.Prelude.{◌≡◌, ◌≢◌, ℕ, [], ◌∷◌, length, Option};
 ghost use Rattle.std.specs.List.{AllByRecursion};
 ghost use Rattle.level_book.specs.Prelude.{slots_of};
 ghost use Rattle.unit_digests.specs.Prelude.{HasPages};
 ghost use Rattle.keepers.specs.Prelude.{Images};
-ghost use Rattle.reverse_runner.specs.Prelude.{HaveRoom, levels_of, AreAlone};
+ghost use Rattle.reverse_runner.specs.Prelude.{HaveRoom, slot_counts, levels_of, AreAlone};
 ghost use Rattle.reverse_runner.specs.declared.fault.RunFault.TheVariants as fault_is;
-ghost use Rattle.reversal.specs.Job.{perform, write};
-ghost use Rattle.reversal.specs.Moment.{Moment, beside, AllEmpty};
-ghost use Rattle.reversal.specs.ActionsLeft.{left_of};
-ghost use Rattle.reversal.specs.Course.{EndsShowing};
-ghost use Rattle.reversal.specs.Decision.{course_of};
-ghost use Rattle.reversal.specs.RunStart.{Begins};
-ghost use Rattle.reversal.specs.JobModel.{performed_run, run_from, job_of, IsPerformable, CanBeDone, KeepersHaveRoom, IsBegun, Does, DoesBegun, fault_ending};
+ghost use Rattle.reversal.specs.Prelude.{perform, write, Moment, beside, AllEmpty, left_of, EndsShowing, course_of, Begins, performed_run, run_from, job_of, IsPerformable, CanBeDone, KeepersHaveRoom, IsBegun, Does, DoesBegun, fault_ending};
 
 use crate::actions::Actions;
 use crate::asking::Asking;
@@ -112,7 +106,7 @@ impl Job {
         counter: &mut Steps<L>,
     ) -> Outcome
         requires can_be_done { CanBeDone self }
-        requires room { KeepersHaveRoom self (map K.slot_count keepers.old.items) }
+        requires room { KeepersHaveRoom self (slot_counts K.Storage keepers.old.items) }
         ensures { Does O.Sink K.Storage (job_of self) result out.old out.new keepers.old keepers.new counter.old counter.new }
     {
         match self {
@@ -141,7 +135,7 @@ impl Performance {
         counter: &mut Steps<L>,
     ) -> Outcome
         requires can_be_done { IsPerformable self }
-        requires room { HaveRoom self.steps (slots_of self.book) (map K.slot_count keepers.old.items) }
+        requires room { HaveRoom self.steps (slots_of self.book) (slot_counts K.Storage keepers.old.items) }
         ensures { Does O.Sink K.Storage (perform (performed_run self)) result out.old out.new keepers.old keepers.new counter.old counter.new }
     {
         let Performance {
@@ -196,7 +190,7 @@ fn perform_all<R: Threads + Sync, K: Keeper, O: Sink, L: Ledger>(
     out: &mut O,
     counter: &mut Steps<L>,
 ) -> Outcome
-    requires begun { IsBegun session.old (left_of actions.old) (map K.slot_count keepers.old.items) }
+    requires begun { IsBegun session.old (left_of actions.old) (slot_counts K.Storage keepers.old.items) }
     requires alone { (told : ℕ → Option Images) → AllEmpty (length session.old.situation.slots) told → AreAlone (levels_of session.old told) }
     requires pages { AllByRecursion (HasPages session.old.work) digesters }
     ensures { DoesBegun O.Sink K.Storage (perform (run_from session.old (left_of actions.old))) result out.old out.new

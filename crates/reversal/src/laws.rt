@@ -22,25 +22,7 @@ ghost use Rattle.endings.specs.Prelude.{ended_of, done};
 ghost use Rattle.requests.specs.declared.question.Question.TheVariants.{State, LastWrite, LastChange};
 ghost use Rattle.requests.specs.Prelude.{Choice, Request, Says, says_raw, stack_pages, unit_count};
 ghost use Rattle.cert_text.specs.declared.certificate.Certificate.TheVariants as certified;
-ghost use Rattle.reversal.specs.Contents.{DecisionsExist};
-ghost use Rattle.reversal.specs.Table.{Decision, accept};
-ghost use Rattle.reversal.specs.CommandCertify.{least_line, DecidesCertify};
-ghost use Rattle.reversal.specs.InputMeaning.{in_units, IsStartOf, AreItemsOf, DecidesOver};
-ghost use Rattle.reversal.specs.Decision.{course_of, Decides, EndsBy};
-ghost use Rattle.reversal.specs.CommandPlan.{DecidesPlanRevolve, DecidesPlanMultistage, DecidesPlanDisk, DecidesPlanHrevolve, DecidesPlanPeriodic};
-ghost use Rattle.reversal.specs.Plans.{list_pieces, plan_pieces, certificate_of};
-ghost use Rattle.reversal.specs.WrittenPlans.{SaysAgain};
-ghost use Rattle.reversal.specs.Job.{Run, Job, perform, ask as ask_job, console, write, last_of, state_of, unit_state};
-ghost use Rattle.reversal.specs.RunStart.{Begins};
-ghost use Rattle.reversal.specs.Collision.{OrdersCollide, ShowsItsStatesOrCollides, WritesTheBeginningOrCollides};
-ghost use Rattle.reversal.specs.CommandConsole.{AreOfOrders, of_run, WentAbout, AnyMark, WritesAnswers, console_course};
-ghost use Rattle.reversal.specs.CommandAsk.{asking};
-ghost use Rattle.reversal.specs.CommandRun.{performing};
-ghost use Rattle.reversal.specs.RunTrace.{AllLevels, SparesNext, UnreachedNext, Went, IsFound, ComesTo, GoesOver, IsWithinSlots};
-ghost use Rattle.reversal.specs.Moment.{Moment, NothingRises, AllTell};
-ghost use Rattle.reversal.specs.Output.{line_of, lines_down, Adds};
-ghost use Rattle.reversal.specs.Course.{Shown, Done, Stops, FailsAt, DamagedAt, Halts};
-ghost use Rattle.reversal.specs.Deeds.{Deed, States, bytes_written, steps_made};
+ghost use Rattle.reversal.specs.Prelude.{DecisionsExist, Decision, accept, least_line, DecidesCertify, in_units, IsStartOf, AreItemsOf, DecidesOver, course_of, Decides, EndsBy, DecidesPlanRevolve, DecidesPlanMultistage, DecidesPlanDisk, DecidesPlanHrevolve, DecidesPlanPeriodic, list_pieces, plan_pieces, certificate_of, SaysAgain, Run, Job, perform, ask as ask_job, console, write, last_of, state_of, unit_state, Begins, OrdersCollide, ShowsItsStatesOrCollides, WritesTheBeginningOrCollides, AreOfOrders, of_run, WentAbout, AnyMark, WritesAnswers, console_course, asking, performing, AllLevels, SparesNext, UnreachedNext, Went, IsFound, ComesTo, GoesOver, IsWithinSlots, Moment, NothingRises, AllTell, line_of, lines_down, Adds, Shown, Done, Stops, FailsAt, DamagedAt, Halts, Deed, States, bytes_written, steps_made};
 
 /// Words mean one request at most.
 pub fn requests_are_unique()

@@ -2,14 +2,7 @@
 ghost use Rattle.std.specs.Prelude.{◌≡◌, ℕ, ◌+◌, ◌≤◌, ◌%◌, ◌++◌, List, length, map, take, drop, IfOk};
 ghost use Rattle.std.specs.List.{AllByRecursion};
 ghost use Rattle.std.specs.Vec.{vec_len, vec_capacity};
-ghost use Rattle.reversal.specs.Job.{write};
-ghost use Rattle.reversal.specs.Moment.{Moment, beside};
-ghost use Rattle.reversal.specs.Deeds.{bytes_of};
-ghost use Rattle.reversal.specs.CommandAsm.{word_bytes, DecidesDisasm};
-ghost use Rattle.reversal.specs.Course.{EndsShowing};
-ghost use Rattle.reversal.specs.Decision.{course_of};
-ghost use Rattle.reversal.specs.Listing.{ended_line, word_pieces, IsWord};
-ghost use Rattle.reversal.specs.JobModel.{IsDecided};
+ghost use Rattle.reversal.specs.Prelude.{write, Moment, beside, bytes_of, word_bytes, DecidesDisasm, EndsShowing, course_of, ended_line, word_pieces, IsWord, IsDecided};
 
 use crate::job::Job;
 use elf_load::ElfFault;

@@ -5,13 +5,12 @@ ghost use Rattle.level_book.specs.Prelude.{total_room};
 ghost use Rattle.revolve_gen.specs.Prelude.{HasPlan, IsMultistage};
 ghost use Rattle.multistage_gen.specs.Prelude.{IsPlaced, IsMultistageList};
 ghost use Rattle.endings.specs.Prelude.{no_memory, no_plan};
-ghost use Rattle.reversal.specs.CommandPlan.{DecidesPlanMultistage};
-ghost use Rattle.reversal.specs.JobModel.{IsDecided};
+ghost use Rattle.reversal.specs.Prelude.{DecidesPlanMultistage, IsDecided};
 
 use crate::actions::Actions;
 use crate::decision::book_in;
 use crate::job::Job;
-use crate::planning::certified_text;
+use crate::planning::plan_text;
 use bound_cert::certify_places;
 use endings::Outcome;
 use level_book::Book;
@@ -27,7 +26,7 @@ pub fn multistage_text(alloc: Global, steps: u32, book: &[u8]) -> Result<Job, Ou
     let book = book_in(alloc, book)?;
     let plan = plan_for(alloc, steps, &book)?;
     let certificate = certify_places(&plan);
-    let job = certified_text(alloc, Actions::Multistage(plan), book, certificate)?;
+    let job = plan_text(alloc, Actions::Multistage(plan), book, Some(certificate))?;
     Ok(job)
 }
 

@@ -4,14 +4,12 @@ ghost use Rattle.plan_types.specs.declared.limits.TheConstants.{MOST_STEPS};
 ghost use Rattle.level_book.specs.Prelude.{total_room};
 ghost use Rattle.disk_gen.specs.Prelude.{periodic_list, HasPeriodicPlan};
 ghost use Rattle.endings.specs.Prelude.{no_memory};
-ghost use Rattle.reversal.specs.CommandPlan.{DecidesPlanPeriodic};
-ghost use Rattle.reversal.specs.JobModel.{IsDecided};
-ghost use Rattle.reversal.specs.NoPlans.{IsUnperiodic};
+ghost use Rattle.reversal.specs.Prelude.{DecidesPlanPeriodic, IsDecided, IsUnperiodic};
 
 use crate::actions::Actions;
 use crate::decision::book_in;
 use crate::job::Job;
-use crate::planning::list_text;
+use crate::planning::plan_text;
 use disk_gen::Periodic;
 use endings::Outcome;
 use level_book::Book;
@@ -28,7 +26,7 @@ pub fn decide_periodic(alloc: Global, plan: &PlanPeriodic<'_>, book: &[u8]) -> R
 {
     let book = book_in(alloc, book)?;
     let periodic = periodic_for(alloc, plan.steps as u32, plan.period as u32, &book)?;
-    let job = list_text(alloc, Actions::Periodic(periodic), book)?;
+    let job = plan_text(alloc, Actions::Periodic(periodic), book, None)?;
     Ok(job)
 }
 

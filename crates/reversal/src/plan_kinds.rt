@@ -1,8 +1,7 @@
 // The decisions on requests for plans.
 ghost use Rattle.std.specs.Prelude.{ℕ, ◌≤◌, List};
 ghost use Rattle.requests.specs.Prelude.{plan_limit, within, IsWithin};
-ghost use Rattle.reversal.specs.CommandPlan.{DecidesPlan};
-ghost use Rattle.reversal.specs.JobModel.{IsDecided};
+ghost use Rattle.reversal.specs.Prelude.{DecidesPlan, IsDecided};
 
 use crate::disk::disk_text;
 use crate::hrevolve::hrevolve_text;

@@ -7,19 +7,9 @@ ghost use Rattle.plan_types.specs.declared.limits.TheConstants.{MOST_STEPS};
 ghost use Rattle.level_book.specs.Prelude.{names_of, total_room};
 ghost use Rattle.action_text.specs.Prelude.{HasSpelling};
 ghost use Rattle.revolve_gen.specs.Prelude.{HasPlan, revolve_list};
-ghost use Rattle.cert_text.specs.Prelude.{pieces};
 ghost use Rattle.endings.specs.Prelude.{no_memory, no_plan};
 ghost use Rattle.requests.specs.Prelude.{worker_count, made};
-ghost use Rattle.reversal.specs.Job.{perform, write};
-ghost use Rattle.reversal.specs.Moment.{Moment, beside};
-ghost use Rattle.reversal.specs.Deeds.{bytes_of};
-ghost use Rattle.reversal.specs.InputMeaning.{DecidesOver};
-ghost use Rattle.reversal.specs.Course.{EndsShowing};
-ghost use Rattle.reversal.specs.Decision.{course_of};
-ghost use Rattle.reversal.specs.CommandPlan.{DecidesPlanRevolve};
-ghost use Rattle.reversal.specs.ActionsLeft.{left_of};
-ghost use Rattle.reversal.specs.JobModel.{job_of, pieces_of, IsWritable, CanBeDone, HasWorkers, KeepersHaveRoom, text_of, IsDecided, RunFits};
-ghost use Rattle.reversal.specs.Plans.{line_of_action, list_pieces};
+ghost use Rattle.reversal.specs.Prelude.{perform, write, Moment, beside, bytes_of, DecidesOver, EndsShowing, course_of, DecidesPlanRevolve, left_of, job_of, certificate_pieces, pieces_of, IsWritable, CanBeDone, HasWorkers, KeepersHaveRoom, text_of, IsDecided, RunFits, line_of_action, list_pieces};
 
 use crate::actions::Actions;
 use crate::decision::{book_in, journal_in, keep, start_of, unit_of, workers_of};
@@ -79,35 +69,19 @@ pub fn revolve_text(alloc: Global, steps: u32, book: &[u8]) -> Result<Job, Outco
     let book = book_in(alloc, book)?;
     let revolve = revolve_for(alloc, steps, &book)?;
     let certificate = certify_revolve(steps, &book);
-    let job = certified_text(alloc, Actions::Streamed(revolve), book, certificate)?;
+    let job = plan_text(alloc, Actions::Streamed(revolve), book, Some(certificate))?;
     Ok(job)
 }
 
-/// The text of some actions over the levels of a book, without a certificate.
-pub fn list_text(alloc: Global, actions: Actions, book: Book) -> Result<Job, AllocError>
-    requires { AllByRecursion (HasSpelling (names_of book)) (left_of actions) }
-    ensures job { IfOk result (λ job. job_of job ≡ write (list_pieces (names_of book) (left_of actions))) }
-    ensures can_be_done { IfOk result CanBeDone }
-    ensures room { IfOk result (λ job. (counts : List ℕ) → KeepersHaveRoom job counts) }
-{
-    let piece = Vec::with_capacity(alloc, PIECE)?;
-    Ok(Job::Plan(Plan {
-        actions,
-        book,
-        certificate: None,
-        piece,
-    }))
-}
-
-/// A list's text in pieces, and the text of its certificate.
-pub fn certified_text(
+/// The text of some actions over the levels of a book in pieces, and the text of their certificate, if any.
+pub fn plan_text(
     alloc: Global,
     actions: Actions,
     book: Book,
-    certificate: Certificate,
+    certificate: Option<Certificate>,
 ) -> Result<Job, AllocError>
     requires { AllByRecursion (HasSpelling (names_of book)) (left_of actions) }
-    ensures job { IfOk result (λ job. job_of job ≡ write (list_pieces (names_of book) (left_of actions) ++ pieces certificate)) }
+    ensures job { IfOk result (λ job. job_of job ≡ write (list_pieces (names_of book) (left_of actions) ++ certificate_pieces certificate)) }
     ensures can_be_done { IfOk result CanBeDone }
     ensures room { IfOk result (λ job. (counts : List ℕ) → KeepersHaveRoom job counts) }
 {
@@ -115,7 +89,7 @@ pub fn certified_text(
     Ok(Job::Plan(Plan {
         actions,
         book,
-        certificate: Some(certificate),
+        certificate,
         piece,
     }))
 }

@@ -1,18 +1,12 @@
 // The top call.
-ghost use Rattle.std.specs.Prelude.{◌≡◌, ◌≢◌, ◌⊎◌, ◌↔◌, ℕ, ◌++◌, map, take, IfOk, IfErr};
+ghost use Rattle.std.specs.Prelude.{◌≡◌, ◌≢◌, ◌⊎◌, ◌↔◌, ℕ, ◌++◌, take, IfOk, IfErr};
 ghost use Rattle.std.specs.List.{AllByRecursion};
 ghost use Rattle.keepers.specs.Prelude.{Rose};
-ghost use Rattle.reverse_runner.specs.Prelude.{rooms_by};
+ghost use Rattle.reverse_runner.specs.Prelude.{rooms_by, slot_counts};
 ghost use Rattle.endings.specs.declared.outcome.Outcome.{Outcome as AnOutcome};
 ghost use Rattle.endings.specs.Prelude.{no_memory, unreadable, ended_of, status_of};
 ghost use Rattle.requests.specs.Prelude.{Request as ARequest, Says, words_of, numbers, IsWithin, RefusesWords, Asks, inputs_of, names, FailsAtInput, request_of};
-ghost use Rattle.reversal.specs.Table.{Decision, accept, refuse};
-ghost use Rattle.reversal.specs.RunStart.{Begins, BeginsBy};
-ghost use Rattle.reversal.specs.Decision.{course_of, Comes, StayInPlace, KeepsOthers, HaveRoomsFor, EndsBy, IsOfJob};
-ghost use Rattle.reversal.specs.Job.{Job as AJob};
-ghost use Rattle.reversal.specs.Moment.{moment};
-ghost use Rattle.reversal.specs.Course.{HaltsShowing};
-ghost use Rattle.reversal.specs.JobModel.{job_of, CanBeDone, KeepersHaveRoom};
+ghost use Rattle.reversal.specs.Prelude.{Decision, accept, refuse, Begins, BeginsBy, course_of, Comes, StayInPlace, KeepsOthers, HaveRoomsFor, EndsBy, IsOfJob, Job as AJob, moment, HaltsShowing, job_of, CanBeDone, KeepersHaveRoom};
 
 use crate::decision::decide;
 use crate::job::Job;
@@ -53,7 +47,7 @@ pub fn reversal<R: Threads + Sync, I: Inputs, K: Keeper, O: Sink, L: Ledger>(
 
     // Unless an input failed or memory ran out, there was a decision, and the call ended by it.
     ensures decided { (r : ARequest) → Asks (words_of words.now) r → result.status ≢ 3 → result.status ≢ 17 → (d : Decision)
-        × Comes r (I.told inputs.old) (I.asked inputs.old) (I.asked inputs.new) (map K.slot_count keepers.old.items) d
+        × Comes r (I.told inputs.old) (I.asked inputs.old) (I.asked inputs.new) (slot_counts K.Storage keepers.old.items) d
         × KeepsOthers K.slot_count K.place d keepers.old.items keepers.new.items
         × EndsBy d result
         (moment O.Sink K.Storage out.old keepers.old.items steps.old)
@@ -63,7 +57,7 @@ pub fn reversal<R: Threads + Sync, I: Inputs, K: Keeper, O: Sink, L: Ledger>(
     // If memory runs out, nothing was done, or a part of a decided job. Over keepers with room it is nothing in a run.
     ensures memory { result.status ≡ 17 → (result ≡ ended_of no_memory) × (((out.new ≡ out.old) × (keepers.new ≡ keepers.old) × (steps.new ≡ steps.old))
         ⊎ ((r : ARequest) × Asks (words_of words.now) r × (job : AJob)
-        × Comes r (I.told inputs.old) (I.asked inputs.old) (I.asked inputs.new) (map K.slot_count keepers.old.items) (accept job)
+        × Comes r (I.told inputs.old) (I.asked inputs.old) (I.asked inputs.new) (slot_counts K.Storage keepers.old.items) (accept job)
         × Begins job
         × KeepsOthers K.slot_count K.place (accept job) keepers.old.items keepers.new.items
         × HaltsShowing (course_of job)
@@ -102,14 +96,14 @@ fn prepared<R: Threads + Sync, I: Inputs, K: Keeper>(
 ) -> Result<Job, Outcome>
     requires { AllByRecursion IsWithin (numbers (request_of request.now)) }
     ensures comes { IfOk result (λ job. Comes (request_of request.now) (I.told inputs.old) (I.asked inputs.old) (I.asked inputs.new)
-        (map K.slot_count keepers.now) (accept (job_of job))) }
+        (slot_counts K.Storage keepers.now) (accept (job_of job))) }
     ensures can_be_done { IfOk result CanBeDone }
-    ensures room { IfOk result (λ job. KeepersHaveRoom job (map K.slot_count keepers.now)) }
+    ensures room { IfOk result (λ job. KeepersHaveRoom job (slot_counts K.Storage keepers.now)) }
     ensures refused { IfErr result (λ e. ((place : ℕ) × (e ≡ unreadable place)
         × FailsAtInput (inputs_of (request_of request.now).command) (I.told inputs.old) place (I.asked inputs.old) (I.asked inputs.new))
         ⊎ (e ≡ no_memory)
         ⊎ ((status_of e ≢ 3) × (status_of e ≢ 17) × (status_of e ≢ 2) × (status_of e ≢ 12) × (status_of e ≢ 14)
-        × Comes (request_of request.now) (I.told inputs.old) (I.asked inputs.old) (I.asked inputs.new) (map K.slot_count keepers.now) (refuse e))) }
+        × Comes (request_of request.now) (I.told inputs.old) (I.asked inputs.old) (I.asked inputs.new) (slot_counts K.Storage keepers.now) (refuse e))) }
     ensures asked { (k : ℕ) × (I.asked inputs.new ≡ I.asked inputs.old ++ take k (names (inputs_of (request_of request.now).command))) }
     ensures quiet { IfOk result (λ _. I.fault_count inputs.new ≡ I.fault_count inputs.old) }
     ensures cause { IfErr result (λ e. status_of e ≡ 3 → Rose (I.fault_count inputs.old) (I.fault_count inputs.new)) }
@@ -122,7 +116,7 @@ fn prepared<R: Threads + Sync, I: Inputs, K: Keeper>(
 
 // The number of slots of each keeper.
 fn slot_counts<K: Keeper>(alloc: Global, keepers: &[K]) -> Result<Vec<u32>, AllocError>
-    ensures { IfOk result (λ counts. counts.items ≡ map K.slot_count keepers.now) }
+    ensures { IfOk result (λ counts. counts.items ≡ slot_counts K.Storage keepers.now) }
 {
     let mut counts = Vec::with_capacity(alloc, keepers.len())?;
     for keeper in keepers {

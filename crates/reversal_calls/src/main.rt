@@ -14,10 +14,10 @@ mod case_keeper;
 mod noted;
 mod over_files;
 
-use came::{Seen, SeenKeeper, came_of};
+use came::{Seen, came_of};
 use case::{Case, case_of};
 use case_files::all_came;
-use case_keeper::CaseKeeper;
+use case_keeper::{CaseKeeper, seen_case_keeper};
 use keepers::MemorySink;
 use noted::NotedInputs;
 use over_files::{files_case_of, hold_the_same, run_over_files, seen_of_ran};
@@ -152,11 +152,7 @@ struct MemoryRun {
 fn seen_of(alloc: Global, called: &MemoryRun) -> Result<Seen<'_>, AllocError> {
     let mut keepers = Vec::new(alloc);
     for keeper in &called.keepers {
-        keepers.push(SeenKeeper {
-            calls: keeper.calls(),
-            held: keeper.filled(),
-            faults: keeper.faults(),
-        })?;
+        keepers.push(seen_case_keeper(keeper))?;
     }
     Ok(Seen {
         ended: &called.ended,

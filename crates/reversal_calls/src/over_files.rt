@@ -2,8 +2,7 @@
 ghost use Rattle.std.specs.Prelude.{◌≡◌, ◌<◌, ℕ, List, [], Some, IfOk, Vec, None};
 ghost use Rattle.std.specs.declared.alloc.Global.{Global as AGlobal};
 ghost use Rattle.std.specs.FinMap as finmap;
-ghost use Rattle.keepers.specs.declared.any_keeper.AnyKeeper.{AnyKeeper as AnAnyKeeper};
-ghost use Rattle.keepers.specs.Prelude.{told_of, asked_of, input_faults_of, fresh};
+ghost use Rattle.keepers.specs.Prelude.{AnyKeeper as AnAnyKeeper, told_of, asked_of, input_faults_of, fresh};
 ghost use Rattle.memory_disk.specs.declared.MemoryDisk.{MemoryDisk as AMemoryDisk};
 ghost use Rattle.reverse_runner.specs.Prelude.{by_number};
 ghost use Rattle.requests.specs.Prelude.{Asks, Request, words_of};
@@ -11,10 +10,10 @@ ghost use Rattle.reversal_program.specs.Prelude.{IsRun};
 
 use crate::bytes::bytes_of;
 use crate::came::{Seen, SeenKeeper};
-use crate::case::{parts, push, words_of};
-use crate::case_keeper::CaseKeeper;
+use crate::case::{failing_call, push, words_of};
+use crate::case_keeper::{CaseKeeper, seen_case_keeper};
 use case_files::CaseFault;
-use keepers::{AnyKeeper, Disk, Keeper};
+use keepers::{AnyKeeper, Disk, EitherKeeper, Keeper, Op};
 use memory_disk::{DiskOp, MemoryDisk};
 use reversal::Words;
 use reversal_program::laws::levels_without_files_begin_empty;
@@ -109,28 +108,18 @@ fn inputs_of(alloc: Global, value: &Value, fails: &Value) -> Result<MemoryDisk, 
     Ok(disk.failing(failing))
 }
 
-// The call of a level's disk that fails, where `keeper` of `fails` names one.
+// The call of a level's disk that fails: what the failing call of the level's keeper asks of its disk first.
 fn failing_of(alloc: Global, level: u64, fails: &Value) -> Result<Failing, CaseFault> {
     let mut failing = Vec::new(alloc);
-    if let Some([of, op, call]) = parts(fails, "keeper") {
-        let (Some(op), Some(call)) = (op_of(op), call.as_u64()) else {
-            return Err(CaseFault::Form);
+    if let Some((op, call)) = failing_call(level, fails)? {
+        let asked = match op {
+            Op::Put => DiskOp::Replace,
+            Op::Get => DiskOp::Look,
+            Op::Free => DiskOp::Remove,
         };
-        if of.as_u64() == Some(level) {
-            push(&mut failing, (op, call))?;
-        }
+        push(&mut failing, (asked, call))?;
     }
     Ok(failing)
-}
-
-// What a keeper's call asks of its disk first.
-fn op_of(value: &Value) -> Option<DiskOp> {
-    match value.as_str() {
-        Some("put") => Some(DiskOp::Replace),
-        Some("get") => Some(DiskOp::Look),
-        Some("free") => Some(DiskOp::Remove),
-        _ => None,
-    }
 }
 
 /// The one call of the program. Each level begins empty and claims so, as the theorem over files requires.
@@ -195,15 +184,10 @@ fn seen_keepers(
 
 fn seen_keeper(keeper: &AnyKeeper<MemoryDisk>) -> SeenKeeper {
     match keeper {
-        AnyKeeper::Memory(keeper) => SeenKeeper {
-            calls: [keeper.puts(), keeper.gets(), keeper.frees()],
-            held: Some(keeper.filled()),
-            faults: keeper.faults(),
-        },
-        AnyKeeper::File(keeper) => SeenKeeper {
-            calls: [keeper.puts(), keeper.gets(), keeper.frees()],
+        EitherKeeper::First(keeper) => SeenKeeper::in_memory(keeper),
+        EitherKeeper::Second(keeper) => SeenKeeper {
+            counts: keeper.counts(),
             held: u32::try_from(keeper.disk().count()).ok(),
-            faults: keeper.faults(),
         },
     }
 }
@@ -215,7 +199,7 @@ pub fn hold_the_same(
     in_files: &mut [AnyKeeper<MemoryDisk>],
 ) -> bool {
     for (one, other) in in_memory.iter_mut().zip(in_files.iter_mut()) {
-        if one.filled() != Some(0) && !have_same_images(alloc, one, other) {
+        if seen_case_keeper(one).held != Some(0) && !have_same_images(alloc, one, other) {
             return false;
         }
     }

@@ -123,7 +123,7 @@ fn each_slot_is_a_file_of_the_folder(rt: HostRuntime) -> Result<(), Fail> {
     assert!(rt; frees(&mut keeper, 11));
     assert!(rt; gives(&mut keeper, 11, 9, b"", &mut into));
     assert!(rt; frees(&mut keeper, 11), "an empty slot");
-    assert_eq!(rt; keeper.faults(), 0);
+    assert_eq!(rt; keeper.counts().faults, 0);
     fs::remove_dir(&rt, "slots")?;
     Ok(())
 }
@@ -144,7 +144,7 @@ fn what_is_no_file_is_left_as_it_is(rt: HostRuntime) -> Result<(), Fail> {
     );
     assert!(rt; fails(&mut keeper, 0, &mut into), "a folder");
     assert!(rt; fails(&mut keeper, 1, &mut into), "a link");
-    assert_eq!(rt; keeper.faults(), 6);
+    assert_eq!(rt; keeper.counts().faults, 6);
     let elsewhere = fs::read(&rt, "elsewhere.txt")?;
     assert_eq!(rt; elsewhere.as_slice(), b"elsewhere".as_slice());
     fs::remove_file(&rt, "elsewhere.txt")?;
@@ -164,7 +164,7 @@ fn a_folder_that_cannot_be_looked_into_is_a_fault(rt: HostRuntime) -> Result<(),
         let disk = SystemDisk::new(rt.clone()?);
         let mut keeper = FileKeeper::new(disk, rt.alloc(), folder, 0, 1);
         assert!(rt; fails(&mut keeper, 0, &mut into));
-        assert_eq!(rt; keeper.faults(), 3);
+        assert_eq!(rt; keeper.counts().faults, 3);
     }
     fs::remove_file(&rt, "no-folder.txt")?;
     fs::remove_file(&rt, "itself")?;

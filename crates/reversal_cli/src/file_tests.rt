@@ -2,10 +2,11 @@
 // objects in memory.
 ghost use Rattle.std.specs.Prelude.{◌≡◌, ◌<◌};
 
+use crate::disks;
 use keepers::SystemDisk;
 use plan_types::Line;
 use reversal::{KeepAt, Words, ended_text, keeper_places};
-use reversal_program::{Disks, Ran, program};
+use reversal_program::{Ran, program};
 use rv_machine::Steps;
 use std::alloc::{AllocError, Global};
 use std::fs;
@@ -61,40 +62,37 @@ fn run_words<T: Threads + Sync, L: Ledger>(
     requires parts { blank.parts ≡ L.parts }
     requires some { 0 < blank.parts }
 {
-    let disks = Disks {
-        inputs: SystemDisk::new(rt.clone()?),
-        levels: (
-            SystemDisk::new(rt.clone()?),
-            SystemDisk::new(rt.clone()?),
-            SystemDisk::new(rt.clone()?),
-            SystemDisk::new(rt.clone()?),
-        ),
-    };
+    let disks = disks(rt)?;
     let mut steps = Steps::<L>::new(blank);
     let out = Vec::new(rt.alloc());
     Ok(program(threads, rt.alloc(), words, disks, out, &mut steps)?)
 }
 
-// Runs the program by the words of a line, without the count of its steps.
+/// Runs the program by the words of a line, without the count of its steps. The files of these names, with these bytes,
+/// are there only meanwhile.
 pub(crate) fn ran<T: Threads + Sync>(
     threads: &T,
     rt: &HostRuntime,
+    files: &[(&str, &[u8])],
     line: &str,
 ) -> Result<RanOverFiles, Fail> {
+    for &(name, bytes) in files {
+        fs::write(rt, name, bytes)?;
+    }
     let words = words_of(rt.alloc(), line)?;
-    run_words::<T, Brand>(threads, rt, &words, Blank::new(1))
+    let ran = run_words::<T, Brand>(threads, rt, &words, Blank::new(1))?;
+    for &(name, _) in files {
+        fs::remove_file(rt, name)?;
+    }
+    Ok(ran)
 }
 
 #[test]
 fn a_run_over_files_writes_its_lines_and_leaves_no_file(rt: HostRuntime) -> Result<(), Fail> {
     fs::create_dir(&rt, "images")?;
-    fs::write(&rt, "images.bin", PROGRAM)?;
-    fs::write(&rt, "images.json", BOOK)?;
-    let ran = ran(
-        &rt,
-        &rt,
-        "--raw --files=0:images --files=1:images run images.bin - images.json @revolve 4",
-    )?;
+    let files = [("images.bin", PROGRAM), ("images.json", BOOK)];
+    let line = "--raw --files=0:images --files=1:images run images.bin - images.json @revolve 4";
+    let ran = ran(&rt, &rt, &files, line)?;
     assert_eq!(rt; ran.ended.status, 0);
     let lines = ran.out.writer().split(|byte| *byte == b'\n');
     for (line, begins) in lines.zip(LINES) {
@@ -102,48 +100,36 @@ fn a_run_over_files_writes_its_lines_and_leaves_no_file(rt: HostRuntime) -> Resu
     }
     // Only an empty folder can be removed so.
     fs::remove_dir(&rt, "images")?;
-    fs::remove_file(&rt, "images.bin")?;
-    fs::remove_file(&rt, "images.json")?;
     Ok(())
 }
 
 #[test]
 fn a_run_leaves_the_image_of_its_schedule_in_the_folder(rt: HostRuntime) -> Result<(), Fail> {
     fs::create_dir(&rt, "kept")?;
-    fs::write(&rt, "kept.bin", PROGRAM)?;
-    fs::write(&rt, "kept.json", BOOK)?;
-    fs::write(&rt, "kept.txt", LEAVING)?;
-    let ran = ran(
-        &rt,
-        &rt,
-        "--raw --files=1:kept run kept.bin - kept.json kept.txt 1",
-    )?;
+    let files = [
+        ("kept.bin", PROGRAM),
+        ("kept.json", BOOK),
+        ("kept.txt", LEAVING),
+    ];
+    let line = "--raw --files=1:kept run kept.bin - kept.json kept.txt 1";
+    let ran = ran(&rt, &rt, &files, line)?;
     assert_eq!(rt; ran.ended.status, 0);
     let image = fs::read(&rt, "kept/level1-slot0.img")?;
     assert!(rt; !image.is_empty());
     fs::remove_file(&rt, "kept/level1-slot0.img")?;
     fs::remove_dir(&rt, "kept")?;
-    fs::remove_file(&rt, "kept.bin")?;
-    fs::remove_file(&rt, "kept.json")?;
-    fs::remove_file(&rt, "kept.txt")?;
     Ok(())
 }
 
 #[test]
 fn a_folder_that_is_not_there_fails_at_the_first_store(rt: HostRuntime) -> Result<(), Fail> {
-    fs::write(&rt, "nowhere.bin", PROGRAM)?;
-    fs::write(&rt, "nowhere.json", BOOK)?;
-    let ran = ran(
-        &rt,
-        &rt,
-        "--raw --files=0:nowhere run nowhere.bin - nowhere.json @revolve 4",
-    )?;
+    let files = [("nowhere.bin", PROGRAM), ("nowhere.json", BOOK)];
+    let line = "--raw --files=0:nowhere run nowhere.bin - nowhere.json @revolve 4";
+    let ran = ran(&rt, &rt, &files, line)?;
     let mut line = Line::new();
     ended_text(&ran.ended, &mut line);
     assert_eq!(rt; line.bytes(), b"reversal: 12 Keeper 1 0 0".as_slice());
     assert!(rt; ran.out.writer().is_empty());
-    fs::remove_file(&rt, "nowhere.bin")?;
-    fs::remove_file(&rt, "nowhere.json")?;
     Ok(())
 }
 

@@ -1,7 +1,6 @@
 // Calls at the greatest numbers and with long inputs. Memory is ample, so each call is done, and none runs out of it.
 use crate::file_tests::ran;
 use std::alloc::{AllocError, Global};
-use std::fs;
 use std::test::Fail;
 
 // ADDI x5, x5, 1 · JAL x0, -4
@@ -31,16 +30,12 @@ fn lines_with(text: &[u8], begin: &[u8]) -> usize {
 fn the_longest_source_is_assembled_and_listed_again(rt: HostRuntime) -> Result<(), Fail> {
     let source = repeated(rt.alloc(), b"addi x1, x0, 3\n", 1_048_576)?;
     let by_hand = repeated(rt.alloc(), b"\x93\x00\x30\x00", 1_048_576)?;
-    fs::write(&rt, "longest.s", &source)?;
-    fs::write(&rt, "longest.bin", &by_hand)?;
-    let words = ran(&rt, &rt, "asm longest.s")?;
+    let words = ran(&rt, &rt, &[("longest.s", &source)], "asm longest.s")?;
     assert_eq!(rt; words.ended.status, 0);
     assert!(rt; words.out.writer().as_slice() == by_hand.as_slice());
-    let list = ran(&rt, &rt, "disasm longest.bin")?;
+    let list = ran(&rt, &rt, &[("longest.bin", &by_hand)], "disasm longest.bin")?;
     assert_eq!(rt; list.ended.status, 0);
     assert!(rt; list.out.writer().as_slice() == source.as_slice());
-    fs::remove_file(&rt, "longest.s")?;
-    fs::remove_file(&rt, "longest.bin")?;
     Ok(())
 }
 
@@ -48,15 +43,11 @@ fn the_longest_source_is_assembled_and_listed_again(rt: HostRuntime) -> Result<(
 // its pages. Its bytes were written by hand. Another program took their SHA-256.
 #[test]
 fn the_last_of_the_most_states_is_found(rt: HostRuntime) -> Result<(), Fail> {
-    fs::write(&rt, "zeros.bin", [0; 4])?;
-    let ran = ran(
-        &rt,
-        &rt,
-        "--raw --workers=4 ask find zeros.bin - 1000000 21573588a02f41bfffc6a05200ddc9596d0bf4171a9186f3e25e92b3cbbe88f3",
-    )?;
+    let line =
+        "--raw --workers=4 ask find zeros.bin - 1000000 21573588a02f41bfffc6a05200ddc9596d0bf4171a9186f3e25e92b3cbbe88f3";
+    let ran = ran(&rt, &rt, &[("zeros.bin", &[0; 4])], line)?;
     assert_eq!(rt; ran.ended.status, 0);
     assert_eq!(rt; ran.out.writer().as_slice(), b"1000000\n".as_slice());
-    fs::remove_file(&rt, "zeros.bin")?;
     Ok(())
 }
 
@@ -93,15 +84,13 @@ fn plans_with_many_slots_are_made(rt: HostRuntime) -> Result<(), Fail> {
         let book = format!(in rt.alloc();
             "{{\"forward\":1,\"reverse\":1,\"levels\":[{{\"name\":\"RAM\",\"slots\":{fast},\"write\":0,\"read\":0}},{{\"name\":\"DISK\",\"slots\":{slow},\"write\":2,\"read\":1}}]}}"
         )?;
-        fs::write(&rt, "plans.json", &book)?;
-        let planned = ran(&rt, &rt, words)?;
+        let planned = ran(&rt, &rt, &[("plans.json", book.as_bytes())], words)?;
         assert_eq!(rt; planned.ended.status, 0, "{words}");
         let plan = planned.out.writer();
         assert_eq!(rt; lines_with(plan, b"Reverse("), *steps, "{words}");
         assert_eq!(rt; lines_with(plan, b"EndReverse()"), 1, "{words}");
         assert_eq!(rt; lines_with(plan, b"#!"), *certificate, "{words}");
     }
-    fs::remove_file(&rt, "plans.json")?;
     Ok(())
 }
 
@@ -114,16 +103,16 @@ fn a_program_and_a_journal_of_two_megabytes_are_read(rt: HostRuntime) -> Result<
         journal.extend_from_slice(b"\x00\x00\x10\x00")?;
         journal.extend_from_slice(&item)?;
     }
-    fs::write(&rt, "long.bin", &program)?;
-    fs::write(&rt, "long.rvj", &journal)?;
-    fs::write(&rt, "long.json", FREE)?;
-    let ran = ran(&rt, &rt, "--raw run long.bin long.rvj long.json @revolve 1")?;
+    let files: [(&str, &[u8]); 3] = [
+        ("long.bin", &program),
+        ("long.rvj", &journal),
+        ("long.json", FREE),
+    ];
+    let line = "--raw run long.bin long.rvj long.json @revolve 1";
+    let ran = ran(&rt, &rt, &files, line)?;
     assert_eq!(rt; ran.ended.status, 0);
     assert!(rt; ran.out.writer().starts_with(b"1 00010004 00000003 "));
     assert_eq!(rt; lines_with(ran.out.writer(), b"0 00010000 00000000 "), 1);
-    fs::remove_file(&rt, "long.bin")?;
-    fs::remove_file(&rt, "long.rvj")?;
-    fs::remove_file(&rt, "long.json")?;
     Ok(())
 }
 
@@ -131,23 +120,20 @@ fn a_program_and_a_journal_of_two_megabytes_are_read(rt: HostRuntime) -> Result<
 // stored and taken. Two more lines are the ends.
 #[test]
 fn a_question_goes_over_a_list_of_20000_lines(rt: HostRuntime) -> Result<(), Fail> {
-    fs::write(&rt, "asked.bin", COUNTING)?;
-    fs::write(&rt, "asked.json", FREE)?;
-    let plan = ran(&rt, &rt, "plan revolve asked.json 5000")?;
+    let book = ("asked.json", FREE);
+    let plan = ran(&rt, &rt, &[book], "plan revolve asked.json 5000")?;
     assert_eq!(rt; plan.ended.status, 0);
-    fs::write(&rt, "asked.txt", plan.out.writer())?;
-    let judged = ran(&rt, &rt, "check asked.json asked.txt 5000")?;
+    let files = [
+        ("asked.bin", COUNTING),
+        book,
+        ("asked.txt", plan.out.writer().as_slice()),
+    ];
+    let judged = ran(&rt, &rt, &files, "check asked.json asked.txt 5000")?;
     assert_eq!(rt; judged.out.writer().as_slice(), b"valid 20000\n".as_slice());
-    let answered = ran(
-        &rt,
-        &rt,
-        "--raw ask state asked.bin - asked.json asked.txt 5000 2500",
-    )?;
+    let line = "--raw ask state asked.bin - asked.json asked.txt 5000 2500";
+    let answered = ran(&rt, &rt, &files, line)?;
     assert_eq!(rt; answered.ended.status, 0);
     let state = b"2500 00010000 00000000 bffffff0 00000000 00000000 000004e2 ";
     assert!(rt; answered.out.writer().starts_with(state));
-    fs::remove_file(&rt, "asked.bin")?;
-    fs::remove_file(&rt, "asked.json")?;
-    fs::remove_file(&rt, "asked.txt")?;
     Ok(())
 }

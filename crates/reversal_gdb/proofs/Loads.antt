@@ -45,13 +45,11 @@ module _ {I A : Type 0} (seen : Ghosts I) (run : Run) where
 
 -- ---- what a loaded run begins with
 
-pub same_start : (raw raw' : Bool) (stack stack' : ℕ) (bytes bytes' : List ℕ) (s s' : MachineState) → raw ≡ raw' → stack ≡ stack' → bytes ≡ bytes' → s ≡ s' → IsStartOf raw stack bytes s → IsStartOf raw' stack' bytes' s'
-same_start raw raw' stack stack' bytes bytes' s s' is_raw pages text state h =
-    let A : Bool → Type 0 = λ x. IsStartOf x stack bytes s in
-    let B : ℕ → Type 0 = λ x. IsStartOf raw' x bytes s in
-    let D : List ℕ → Type 0 = λ x. IsStartOf raw' stack' x s in
-    let E : MachineState → Type 0 = λ x. IsStartOf raw' stack' bytes' x in
-    subst E state (subst D text (subst B pages (subst A is_raw h)))
+pub same_start : (raw : Bool) (stack : ℕ) (bytes bytes' : List ℕ) (s s' : MachineState) → bytes ≡ bytes' → s ≡ s' → IsStartOf raw stack bytes s → IsStartOf raw stack bytes' s'
+same_start raw stack bytes bytes' s s' text state h =
+    let D : List ℕ → Type 0 = λ x. IsStartOf raw stack x s in
+    let E : MachineState → Type 0 = λ x. IsStartOf raw stack bytes' x in
+    subst E state (subst D text h)
 
 pub journal_there : (told : Option Files) (name bytes : Option (List ℕ)) (i : Input) (n b : List ℕ) → name ≡ Some n → bytes ≡ Some b → i ≡ named input.Journal n → IsThere told i b → IsJournalText told name bytes
 journal_there told name bytes i n b has text is h =

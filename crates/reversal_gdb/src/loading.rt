@@ -30,12 +30,7 @@ pub fn timeline_of<I: Inputs>(
         &InputKind::Program.named(run.program.as_bytes()),
         inputs,
     )?;
-    let start = load_start(
-        alloc,
-        options.is_raw(),
-        program.as_slice(),
-        options.stack_pages(),
-    )?;
+    let start = load_start(alloc, options.raw, program.as_slice(), options.stack)?;
     let journal = match run.journal {
         Some(name) => Some(read_input(
             alloc,
@@ -46,8 +41,8 @@ pub fn timeline_of<I: Inputs>(
         None => None,
     };
     let journal = read_recorded(alloc, journal)?;
-    let budget = budget_for(options.marks(), start.pages.count());
-    Ok(Timeline::begin(alloc, start, journal, budget, options.most_steps())?)
+    let budget = budget_for(options.marks, start.pages.count());
+    Ok(Timeline::begin(alloc, start, journal, budget, options.most)?)
 }
 
 // The bytes for so many states with so many pages each, at most 1 GiB.

@@ -23,10 +23,14 @@ const MARKS: u32 = 256;
 /// What the options say.
 #[derive(Clone, Copy)]
 pub struct Options {
-    raw: bool,
-    stack: u32,
-    most: u32,
-    marks: u32,
+    /// Whether the program is raw words.
+    pub raw: bool,
+    /// How many pages the stack has.
+    pub stack: u32,
+    /// How many instructions the run has at most.
+    pub most: u32,
+    /// How many states of the run may be kept.
+    pub marks: u32,
     ghost some: { 1 ≤ stack },
     ghost few: { stack ≤ 1024 },
 }
@@ -50,34 +54,6 @@ impl Options {
             most,
             marks,
         })
-    }
-
-    /// Whether the program is raw words.
-    pub fn is_raw(&self) -> bool
-        ensures { result ≡ self.now.raw }
-    {
-        self.raw
-    }
-
-    /// How many pages the stack has.
-    pub fn stack_pages(&self) -> u32
-        ensures { result ≡ self.now.stack }
-    {
-        self.stack
-    }
-
-    /// How many instructions the run has at most.
-    pub fn most_steps(&self) -> u32
-        ensures { result ≡ self.now.most }
-    {
-        self.most
-    }
-
-    /// How many states of the run may be kept.
-    pub fn marks(&self) -> u32
-        ensures { result ≡ self.now.marks }
-    {
-        self.marks
     }
 }
 

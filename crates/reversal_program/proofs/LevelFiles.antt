@@ -9,10 +9,9 @@ use Rattle.std.proofs.lemmas.Option.{slice_get-map, same_Some}
 use Rattle.plan_types.specs.declared.action.Action.{Action}
 use Rattle.plan_types.specs.declared.limits.TheConstants.{MOST_SLOTS}
 use Rattle.keepers.specs.Claims.{Images, Files}
-use Rattle.keepers.specs.AnyKeeper.{told_of, slots_of, place_of}
+use Rattle.keepers.specs.AnyKeeper.{AnyKeeper, told_of, slots_of, place_of}
 use Rattle.keepers.specs.SlotFiles.{slot_path, level_images, disk_of}
-use Rattle.keepers.specs.declared.any_keeper.AnyKeeper.{AnyKeeper}
-use Rattle.keepers.specs.declared.any_keeper.AnyKeeper.TheVariants.{Memory, File}
+use Rattle.keepers.specs.declared.either_keeper.EitherKeeper.TheVariants.{First, Second}
 use Rattle.keepers.specs.declared.file_keeper.FileKeeper.{FileKeeper}
 use Rattle.keepers.proofs.SlotImages.{get_level, get_there}
 use Rattle.level_book.specs.Configuration.{start, held_on}
@@ -49,8 +48,8 @@ pub record IsSaid {D : Type 0} (folder : List ℕ) (level : ℕ) (o : Option (An
   pub slots : option_map slots_of o ≡ Some MOST_SLOTS
 
 kept_in : {D : Type 0} (level : ℕ) (folder : List ℕ) (disk : D) (k : AnyKeeper D) → IsKeeperOf level (Some folder) disk k → place_of k ≡ Some (folder, level)
-kept_in level folder disk (Memory k) is = absurd is
-kept_in level folder disk (File k) is = λ i. Some (is.0 i, is.1 i)
+kept_in level folder disk (First k) is = absurd is
+kept_in level folder disk (Second k) is = λ i. Some (is.0 i, is.1 i)
 
 -- the keeper of a level for which a folder is said
 said_at : {D : Type 0} (told : D → Option Files) (level : ℕ) (folders : List (Option (List ℕ))) (disks : List D) (ks : List (AnyKeeper D)) → AllBegin told level folders disks ks →
@@ -99,18 +98,18 @@ module _ (states : ℕ → MachineState) (numbers : Numbers) (folder : List ℕ)
 
 -- what the keeper tells is of the files of its folder
 module _ {D : Type 0} (told : D → Option Files) (states : ℕ → MachineState) (numbers : Numbers) (folder : List ℕ) (level : ℕ) (after : List (AnyKeeper D)) where
-  of_files : (k : FileKeeper D) → slice_get after level ≡ Some (File k) → (files : Option Files) → told (disk_of k) ≡ files →
+  of_files : (k : FileKeeper D) → slice_get after level ≡ Some (Second k) → (files : Option Files) → told (disk_of k) ≡ files →
       IsToldAnd (option_map (level_images folder level MOST_SLOTS) files) (HoldsJust states numbers) → LevelHoldsJust told states numbers folder level after
   of_files k there None tells just = absurd just
   of_files k there (Some files) tells just = record { keeper = k; there = there; files = files; tells = tells; hold = files_hold states numbers folder level files just }
 
   of_keeper : (o : Option (AnyKeeper D)) → slice_get after level ≡ o → IsSaid folder level o → IsToldAnd (option_map_or (told_of told) o None) (HoldsJust states numbers) → LevelHoldsJust told states numbers folder level after
   of_keeper None there said just = absurd just
-  of_keeper (Some (Memory k)) there said just = absurd (in_memory (folder, level) (same_Some _ _ said.place))
+  of_keeper (Some (First k)) there said just = absurd (in_memory (folder, level) (same_Some _ _ said.place))
     where
       in_memory : (place : List ℕ × ℕ) → None ≡ Some place → ⊥
       in_memory place e = cc
-  of_keeper (Some (File k)) there said just =
+  of_keeper (Some (Second k)) there said just =
       let place = same_Some _ _ (same_Some _ _ said.place) in
       let slots = same_Some _ _ said.slots in
       let J : Option Images → Type 0 = λ t. IsToldAnd t (HoldsJust states numbers) in

@@ -3,9 +3,8 @@ use Rattle.std.proofs.Common.{◌≡◌, ℕ, zero, suc, ◌+◌, ◌<◌, List,
 use Rattle.std.specs.Option.{option_map}
 use Rattle.std.specs.FinMap as finmap
 use Rattle.keepers.specs.Claims.{Files}
-use Rattle.keepers.specs.AnyKeeper.{told_of}
+use Rattle.keepers.specs.AnyKeeper.{AnyKeeper, told_of}
 use Rattle.keepers.specs.SlotFiles.{level_images}
-use Rattle.keepers.specs.declared.any_keeper.AnyKeeper.{AnyKeeper}
 use Rattle.keepers.proofs.SlotImages.{level_empty}
 use Rattle.reverse_runner.specs.KeepersSeen.{by_number}
 use Rattle.reversal_program.specs.LevelStart.{AllBegin, HaveNoFiles, HasNoFiles, held_at_first}

@@ -5,8 +5,8 @@ use Rattle.std.specs.FinMap as finmap
 use Rattle.plan_types.specs.declared.limits.TheConstants.{MOST_SLOTS}
 use Rattle.keepers.specs.Claims.{Files}
 use Rattle.keepers.specs.SlotFiles.{slot_path, disk_of}
-use Rattle.keepers.specs.declared.any_keeper.AnyKeeper.{AnyKeeper}
-use Rattle.keepers.specs.declared.any_keeper.AnyKeeper.TheVariants.{File}
+use Rattle.keepers.specs.AnyKeeper.{AnyKeeper}
+use Rattle.keepers.specs.declared.either_keeper.EitherKeeper.TheVariants.{Second}
 use Rattle.keepers.specs.declared.file_keeper.FileKeeper.{FileKeeper}
 use Rattle.rv_machine.specs.MachineState.{MachineState}
 use Rattle.state_image.specs.Image.{image}
@@ -24,7 +24,7 @@ pub record FilesHoldJust (states : ℕ → MachineState) (numbers : Numbers) (fo
 -- and they are on the disk of the level's keeper, which claims its files
 pub record LevelHoldsJust {D : Type 0} (told : D → Option Files) (states : ℕ → MachineState) (numbers : Numbers) (folder : List ℕ) (level : ℕ) (keepers : List (AnyKeeper D)) : Type 0 where
   pub keeper : FileKeeper D
-  pub there : slice_get keepers level ≡ Some (File keeper)
+  pub there : slice_get keepers level ≡ Some (Second keeper)
   pub files : Files
   pub tells : told (disk_of keeper) ≡ Some files
   pub hold : FilesHoldJust states numbers folder level files

@@ -4,16 +4,15 @@ use Rattle.std.specs.Option.{option_map}
 use Rattle.std.specs.FinMap as finmap
 use Rattle.plan_types.specs.declared.limits.TheConstants.{MOST_SLOTS}
 use Rattle.keepers.specs.Claims.{Images, Files}
-use Rattle.keepers.specs.AnyKeeper.{told_of, slots_of, puts_of, gets_of, frees_of, faults_of}
+use Rattle.keepers.specs.AnyKeeper.{AnyKeeper, told_of, slots_of, puts_of, gets_of, frees_of, faults_of}
 use Rattle.keepers.specs.SlotFiles.{folder_of, level_of, disk_of, slot_path, level_images}
-use Rattle.keepers.specs.declared.any_keeper.AnyKeeper.{AnyKeeper}
-use Rattle.keepers.specs.declared.any_keeper.AnyKeeper.TheVariants.{Memory, File}
+use Rattle.keepers.specs.declared.either_keeper.EitherKeeper.TheVariants.{First, Second}
 
 -- A level without a folder has a keeper in memory that never fails. Otherwise its keeper has the folder's files that
 -- are named by the level's number. They are on the level's own disk.
 abbrev pub IsKeeperOf : {D : Type 0} → ℕ → Option (List ℕ) → D → AnyKeeper D → Type 0
-IsKeeperOf level None disk (Memory k) = k.failing ≡ []
-IsKeeperOf level (Some folder) disk (File k) = (folder_of k ≡ folder) × (level_of k ≡ level) × (disk_of k ≡ disk)
+IsKeeperOf level None disk (First k) = k.failing ≡ []
+IsKeeperOf level (Some folder) disk (Second k) = (folder_of k ≡ folder) × (level_of k ≡ level) × (disk_of k ≡ disk)
 IsKeeperOf level folder disk k = ⊥
 
 -- what a level claims at first: nothing in memory, or the images in its folder's files

@@ -2,9 +2,8 @@
 use Rattle.std.specs.Prelude.{◌≡◌, ◌≢◌, ◌⊎◌, ◌↔◌, ℕ, List, ◌++◌, map, take, Option, None}
 use Rattle.keepers.specs.Counts.{Rose}
 use Rattle.keepers.specs.Claims.{Files}
-use Rattle.keepers.specs.AnyKeeper.{told_of, slots_of, puts_of, gets_of, frees_of, faults_of, room_of, place_of}
+use Rattle.keepers.specs.AnyKeeper.{AnyKeeper, told_of, slots_of, puts_of, gets_of, frees_of, faults_of, room_of, place_of}
 use Rattle.keepers.specs.ExternalState.{writer_of, writes_of, sink_faults_of}
-use Rattle.keepers.specs.declared.any_keeper.AnyKeeper.{AnyKeeper}
 use Rattle.keepers.specs.declared.stdout_sink.StdoutSink.{StdoutSink}
 use Rattle.reverse_runner.specs.KeepersSeen.{by_number}
 use Rattle.endings.specs.declared.ended.Ended.{Ended}

@@ -2,9 +2,8 @@
 ghost use Rattle.std.specs.Prelude.{◌≡◌, ◌⊎◌, ℕ, ◌<◌, ◌≤◌, List, Option, Some, length, map, slice_get, None};
 ghost use Rattle.std.specs.FinMap as finmap;
 ghost use Rattle.level_book.specs.Prelude.{held_on, Valid};
-ghost use Rattle.keepers.specs.declared.any_keeper.AnyKeeper.{AnyKeeper as AnAnyKeeper};
 ghost use Rattle.keepers.specs.declared.stdout_sink.StdoutSink.{StdoutSink as AStdoutSink};
-ghost use Rattle.keepers.specs.Prelude.{Rose, Files, told_of, slots_of, place_of};
+ghost use Rattle.keepers.specs.Prelude.{AnyKeeper as AnAnyKeeper, Rose, Files, told_of, slots_of, place_of};
 ghost use Rattle.reverse_runner.specs.Prelude.{by_number};
 ghost use Rattle.endings.specs.declared.ended.Ended.{Ended as AnEnded};
 ghost use Rattle.endings.specs.Prelude.{done, no_memory, ended_of};

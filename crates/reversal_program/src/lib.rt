@@ -4,8 +4,7 @@
 #![tactic(auto)]
 
 ghost use Rattle.std.specs.Prelude.{◌≡◌, List, [], ◌∷◌, map, drop, string_bytes, IfOk, OnErr};
-ghost use Rattle.keepers.specs.declared.any_keeper.AnyKeeper.{AnyKeeper as AnAnyKeeper};
-ghost use Rattle.keepers.specs.Prelude.{asked_of, input_faults_of, fresh};
+ghost use Rattle.keepers.specs.Prelude.{AnyKeeper as AnAnyKeeper, asked_of, input_faults_of, fresh};
 ghost use Rattle.requests.specs.Prelude.{Request, words_of, Asks, levels, folder_said, folder_at};
 ghost use Rattle.reversal_program.specs.LevelStart.{KeeperBegins, AllBegin};
 ghost use Rattle.reversal_program.specs.Run.{IsRun};
@@ -129,8 +128,8 @@ fn keeper_for<D: Disk + Drop>(
     ensures { IfOk result (KeeperBegins D.told level (folder_at (words_of words.now) place) disk) }
 {
     let Some(folder) = place.folder(words) else {
-        return Ok(AnyKeeper::Memory(MemoryKeeper::new(alloc, MOST_SLOTS)));
+        return Ok(AnyKeeper::First(MemoryKeeper::new(alloc, MOST_SLOTS)));
     };
     let folder = Vec::from_slice(alloc, folder)?;
-    Ok(AnyKeeper::File(FileKeeper::new(disk, alloc, folder, level, MOST_SLOTS)))
+    Ok(AnyKeeper::Second(FileKeeper::new(disk, alloc, folder, level, MOST_SLOTS)))
 }

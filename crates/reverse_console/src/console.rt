@@ -1,10 +1,10 @@
 // A console.
-ghost use Rattle.std.specs.Prelude.{◌≡◌, ◌≢◌, ◌<◌, ◌≤◌, ◌↔◌, ℕ, List, true, false, length, map, max, Option, Err, IfOk, OnErr, IsErrOf};
+ghost use Rattle.std.specs.Prelude.{◌≡◌, ◌≢◌, ◌<◌, ◌≤◌, ◌↔◌, ℕ, List, true, false, length, max, Option, Err, IfOk, OnErr, IsErrOf};
 ghost use Rattle.plan_types.specs.declared.limits.TheConstants.{MOST_STEPS};
 ghost use Rattle.level_book.specs.Prelude.{slots_of, total_room};
 ghost use Rattle.rv_machine.specs.Prelude.{MachineState, IsMachineState, state_number};
 ghost use Rattle.keepers.specs.Prelude.{Images};
-ghost use Rattle.reverse_runner.specs.Prelude.{VisitorAfter, KeepersAre, told_by, calls_to, HaveRoom, image_room, rooms_by, AreRoomy};
+ghost use Rattle.reverse_runner.specs.Prelude.{VisitorAfter, KeepersAre, told_by, calls_to, HaveRoom, image_room, rooms_by, AreRoomy, slot_counts};
 ghost use Rattle.reverse_console.specs.Answer.{IsAnswer, IsOrder};
 ghost use Rattle.reverse_console.specs.ConsoleState.{plan_of, source_of};
 ghost use Rattle.reverse_console.specs.Costs.{PutsMarks, looking, BreaksLooking};
@@ -62,7 +62,7 @@ impl Console {
     ) -> Result<Console, RunFault>
         requires count { run.count ≤ MOST_STEPS }
         requires slots { 1 ≤ total_room run.book (max run.count 1) }
-        requires room { HaveRoom (max run.count 1) (slots_of run.book) (map K.slot_count keepers.old.items) }
+        requires room { HaveRoom (max run.count 1) (slots_of run.book) (slot_counts K.Storage keepers.old.items) }
 
         // It is at state 0, and represents the run over keepers that claim their content.
         ensures begun { IfOk result (λ c. (c.plan ≡ plan_of run) × (c.journal ≡ run.journal) × (c.place ≡ 0) × (c.ended ≡ false)) }
@@ -134,7 +134,7 @@ impl Console {
         steps: &mut Steps<L>,
     ) -> Result<bool, RunFault>
         requires order { self.old.ended ≡ false → IsOrder self.old.plan.count order.now }
-        requires room { self.old.ended ≡ false → HaveRoom (span self.old.plan) self.old.plan.slots (map K.slot_count keepers.old.items) }
+        requires room { self.old.ended ≡ false → HaveRoom (span self.old.plan) self.old.plan.slots (slot_counts K.Storage keepers.old.items) }
 
         // A console that has ended does nothing.
         ensures ended { IsErrOf result RunFault.Ended ↔ (self.old.ended ≡ true) }
@@ -154,7 +154,7 @@ impl Console {
         ensures over { OnErr result (self.new.ended ≡ true) }
 
         // The visitor was called only for the state of an answer.
-        ensures seen { VisitorAfter V.fault_count result visitor.old visitor.new }
+        ensures seen { VisitorAfter V.Visitor result visitor.old visitor.new }
 
         // Over keepers with room for the images no order runs out of memory.
         ensures roomy { AreRoomy (image_room self.old.work) (length self.old.plan.slots) (rooms_by K.Storage keepers.old.items) →
@@ -197,14 +197,14 @@ fn answer<K: Keeper, V: Visitor, L: Ledger>(
 ) -> Result<bool, RunFault>
     requires within { place.old ≤ marks.now.count }
     requires order { IsOrder marks.now.count order.now }
-    requires ready { IsReady marks.now desk.old (map K.slot_count keepers.old.items) }
+    requires ready { IsReady marks.now desk.old (slot_counts K.Storage keepers.old.items) }
     ensures performed { IsPerformed V.got V.missed (source marks.now journal.now desk.old (told_by K.Storage keepers.old.items)) place.old place.new order.now
         result visitor.old visitor.new steps.old steps.new (calls_to K.Storage keepers.old.items) (calls_to K.Storage keepers.new.items) }
     ensures within { place.new ≤ marks.now.count }
     ensures stays { OnErr result (place.new ≡ place.old) }
     ensures gets { (list : List ℕ) × Gets K.Storage marks.now journal.now list
         result desk.old desk.new keepers.old.items keepers.new.items }
-    ensures seen { VisitorAfter V.fault_count result visitor.old visitor.new }
+    ensures seen { VisitorAfter V.Visitor result visitor.old visitor.new }
 {
     marks.have_room();
     let found = new_place(desk, marks, journal, *place, order, keepers, steps)?;
@@ -230,7 +230,7 @@ fn new_place<K: Keeper, L: Ledger>(
 ) -> Result<Option<u32>, RunFault>
     requires within { place ≤ marks.now.count }
     requires order { IsOrder marks.now.count order.now }
-    requires ready { IsReady marks.now desk.old (map K.slot_count keepers.old.items) }
+    requires ready { IsReady marks.now desk.old (slot_counts K.Storage keepers.old.items) }
     ensures seen { IfOk result (IsAnswerSeen (source marks.now journal.now desk.old (told_by K.Storage keepers.old.items)) place order.now) }
     ensures looks { Looks K.Storage marks.now journal.now
         (looking marks.now place order.now) (BreaksLooking marks.now place order.now) result desk.old desk.new keepers.old.items keepers.new.items

@@ -1,7 +1,7 @@
 // Setting marks, and reaching a state from its mark.
-ghost use Rattle.std.specs.Prelude.{◌≡◌, ◌≢◌, ◌+◌, ◌<◌, ◌≤◌, [], ◌∷◌, map, Ok, Err, OnOk, IfErr};
+ghost use Rattle.std.specs.Prelude.{◌≡◌, ◌≢◌, ◌+◌, ◌<◌, ◌≤◌, [], ◌∷◌, Ok, Err, OnOk, IfErr};
 ghost use Rattle.rv_machine.specs.Prelude.{MachineState, state_number};
-ghost use Rattle.reverse_runner.specs.Prelude.{VisitorAfter, told_by, calls_to, SamePages};
+ghost use Rattle.reverse_runner.specs.Prelude.{VisitorAfter, told_by, calls_to, SamePages, slot_counts};
 ghost use Rattle.reverse_console.specs.Costs.{PutsMarks, way};
 ghost use Rattle.reverse_console.specs.Marks.{stride, marked, mark_count, mark_of};
 ghost use Rattle.reverse_console.specs.MarkInvariant.{AreSet, AreKept, StandAt, PutsMark, SetsMark, MaySet, LeavesDesk, IsReady, source, Gets};
@@ -23,7 +23,7 @@ fn set_mark<K: Keeper>(
     keepers: &mut Vec<K>,
 ) -> Result<(), RunFault>
     requires known { mark < mark_count marks.now }
-    requires may_set { MaySet marks.now mark desk.old (map K.slot_count keepers.old.items) }
+    requires may_set { MaySet marks.now mark desk.old (slot_counts K.Storage keepers.old.items) }
     ensures sets { SetsMark marks.now mark desk.old.work result desk.old.store desk.new.store (told_by K.Storage keepers.old.items)
         (told_by K.Storage keepers.new.items) }
     ensures work { desk.new.work ≡ desk.old.work }
@@ -36,28 +36,6 @@ fn set_mark<K: Keeper>(
     desk.keep(keepers, marks.level(mark), marks.marked(mark), &digest)
 }
 
-// Takes the steps to the next mark, and sets it.
-fn set_next<K: Keeper, L: Ledger>(
-    desk: &mut Desk,
-    marks: &Marks,
-    journal: &Journal,
-    mark: u32,
-    keepers: &mut Vec<K>,
-    steps: &mut Steps<L>,
-) -> Result<(), RunFault>
-    requires known { mark < mark_count marks.now }
-    requires may_set { MaySet marks.now mark desk.old (map K.slot_count keepers.old.items) }
-    ensures sets { SetsMark marks.now mark desk.new.work result desk.old.store desk.new.store (told_by K.Storage keepers.old.items)
-        (told_by K.Storage keepers.new.items) }
-    ensures work { desk.new.work ≡ state_number desk.old.work journal.now (stride marks.now) }
-    ensures counted { steps.new ≡ steps.old + stride marks.now }
-    ensures puts { PutsMark marks.now mark result (calls_to K.Storage keepers.old.items) (calls_to K.Storage keepers.new.items) }
-    ensures leaves { LeavesDesk K.Storage marks.now result desk.old desk.new keepers.old.items keepers.new.items }
-{
-    desk.advance(journal, marks.stride(), steps);
-    set_mark(desk, marks, mark, keepers)
-}
-
 // Sets the marks, from the first state on.
 pub(crate) fn set_marks<K: Keeper, L: Ledger>(
     desk: &mut Desk,
@@ -66,7 +44,7 @@ pub(crate) fn set_marks<K: Keeper, L: Ledger>(
     keepers: &mut Vec<K>,
     steps: &mut Steps<L>,
 ) -> Result<(), RunFault>
-    requires may_set { MaySet marks.now 0 desk.old (map K.slot_count keepers.old.items) }
+    requires may_set { MaySet marks.now 0 desk.old (slot_counts K.Storage keepers.old.items) }
     ensures set { OnOk result (AreSet marks.now (mark_count marks.now) desk.new.store) }
     ensures stand { StandAt desk.old.work journal.now marks.now 0 desk.old.store (told_by K.Storage keepers.old.items) →
         OnOk result (StandAt desk.old.work journal.now marks.now (mark_count marks.now) desk.new.store (told_by K.Storage keepers.new.items)) }
@@ -78,7 +56,8 @@ pub(crate) fn set_marks<K: Keeper, L: Ledger>(
     marks.have_room();
     set_mark(desk, marks, 0, keepers)?;
     for mark in 1..marks.number() {
-        set_next(desk, marks, journal, mark, keepers, steps)?;
+        desk.advance(journal, marks.stride(), steps);
+        set_mark(desk, marks, mark, keepers)?;
     }
     Ok(())
 }
@@ -92,7 +71,7 @@ pub(crate) fn recall<K: Keeper>(
     keepers: &mut Vec<K>,
 ) -> Result<(), RunFault>
     requires known { mark < mark_count marks.now }
-    requires ready { IsReady marks.now desk.old (map K.slot_count keepers.old.items) }
+    requires ready { IsReady marks.now desk.old (slot_counts K.Storage keepers.old.items) }
     ensures comes { OnOk result (ComesFrom (source marks.now journal.now desk.old (told_by K.Storage keepers.old.items)) mark (marked marks.now mark)
         desk.new.work) }
     ensures gets { Gets K.Storage marks.now journal.now (mark ∷ []) result
@@ -118,7 +97,7 @@ pub(crate) fn go<K: Keeper, V: Visitor, L: Ledger>(
     steps: &mut Steps<L>,
 ) -> Result<(), RunFault>
     requires within { n ≤ marks.now.count }
-    requires ready { IsReady marks.now desk.old (map K.slot_count keepers.old.items) }
+    requires ready { IsReady marks.now desk.old (slot_counts K.Storage keepers.old.items) }
     ensures got { OnOk result ((s : MachineState)
         × (ComesFrom (source marks.now journal.now desk.old (told_by K.Storage keepers.old.items)) (mark_of marks.now n) n s
         × V.got visitor.old n s journal.now visitor.new)) }
@@ -132,7 +111,7 @@ pub(crate) fn go<K: Keeper, V: Visitor, L: Ledger>(
     ensures counted { OnOk result (steps.new ≡ steps.old + way marks.now n n) }
     ensures counted_unseen { result ≡ Err RunFault.Visitor → steps.new ≡ steps.old + way marks.now n n }
     ensures idle { result ≢ Ok tt → result ≢ Err RunFault.Visitor → steps.new ≡ steps.old }
-    ensures seen { VisitorAfter V.fault_count result visitor.old visitor.new }
+    ensures seen { VisitorAfter V.Visitor result visitor.old visitor.new }
 {
     marks.have_room();
     let mark = marks.of(n);

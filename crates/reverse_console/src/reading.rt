@@ -1,7 +1,6 @@
 // From a script to its orders.
-ghost use Rattle.std.specs.Prelude.{◌≡◌, ◌≢◌, ◌⊎◌, ◌≤◌, ◌<◌, ◌^◌, ◌++◌, ℕ, List, length, slice_get, Some, MatchResult, IfOk, IfErr, OnOk};
+ghost use Rattle.std.specs.Prelude.{◌≡◌, ◌≢◌, ◌⊎◌, ◌≤◌, ◌<◌, ◌^◌, ℕ, List, length, slice_get, Some, MatchResult, IfOk, IfErr};
 ghost use Rattle.std.specs.Vec.{vec_len};
-ghost use Rattle.std.specs.Option.{option_to_list};
 ghost use Rattle.plan_types.specs.declared.limits.TheConstants.{MOST_STEPS};
 ghost use Rattle.line_texts.specs.declared.fault.Fault.{Fault as AFault};
 ghost use Rattle.line_texts.specs.Prelude.{GivesUnlessMemory};
@@ -13,7 +12,7 @@ ghost use Rattle.reverse_console.specs.ScriptParser.{script_of};
 
 use crate::line::line;
 use crate::order::Order;
-use line_texts::{Fault, Lines};
+use line_texts::{Fault, Lines, push_found};
 use std::alloc::Global;
 
 /// The orders of a script, for a console in a run of so many steps, or its first fault. It reads the text once, and
@@ -52,19 +51,8 @@ fn read_lines(alloc: Global, bytes: &[u8], count: u32) -> Result<Vec<Order>, Fau
             Ok(found) => found,
             Err(fault) => return Err(fault.at(number)),
         };
-        add(&mut orders, found)?;
+        push_found(&mut orders, found)?;
         number += 1;
     }
     Ok(orders)
-}
-
-// Adds an order to a list, if there is one.
-fn add(orders: &mut Vec<Order>, found: Option<Order>) -> Result<(), Fault>
-    ensures added { OnOk result (orders.new.items ≡ orders.old.items ++ option_to_list found) }
-    ensures memory { IfErr result (λ e. e ≡ Fault.Memory) }
-{
-    if let Some(order) = found {
-        orders.push(order)?;
-    }
-    Ok(())
 }

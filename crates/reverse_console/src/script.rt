@@ -1,8 +1,8 @@
 // How the orders of a script are answered in a sink.
-ghost use Rattle.std.specs.Prelude.{◌≡◌, ◌++◌, ℕ, List, false, length, map, Option, IfOk, OnOk};
+ghost use Rattle.std.specs.Prelude.{◌≡◌, ◌++◌, ℕ, List, false, length, Option, IfOk, OnOk};
 ghost use Rattle.rv_machine.specs.Prelude.{MachineState, IsMachineState};
 ghost use Rattle.keepers.specs.Prelude.{Tells};
-ghost use Rattle.reverse_runner.specs.Prelude.{FaultsAfter, told_by, calls_to};
+ghost use Rattle.reverse_runner.specs.Prelude.{FaultsAfter, told_by, calls_to, slot_counts};
 ghost use Rattle.reverse_console.specs.Causes.{fault_of};
 ghost use Rattle.reverse_console.specs.ConsoleState.{GoesOn, source_of};
 ghost use Rattle.reverse_console.specs.OrderResults.{LeavesKeepers, AreSpared};
@@ -31,7 +31,7 @@ fn show<K: Keeper, O: Sink, L: Ledger>(
     out: &mut O,
     steps: &mut Steps<L>,
 ) -> Result<bool, RunFault>
-    requires { AwaitsOrder console.old order.now (map K.slot_count keepers.old.items) }
+    requires { AwaitsOrder console.old order.now (slot_counts K.Storage keepers.old.items) }
     ensures shown { IfOk result (λ found. IsOrderShown (source_of console.old (told_by K.Storage keepers.old.items)) order.now found
         (moment console.old steps.old (calls_to K.Storage keepers.old.items) (O.call_count out.old))
         (moment console.new steps.new (calls_to K.Storage keepers.new.items) (O.call_count out.new)) (O.told out.old) (O.told out.new)) }
@@ -52,7 +52,7 @@ fn answer_line<K: Keeper, O: Sink, L: Ledger>(
     out: &mut O,
     steps: &mut Steps<L>,
 ) -> Result<(), RunFault>
-    requires { AwaitsOrder console.old order.now (map K.slot_count keepers.old.items) }
+    requires { AwaitsOrder console.old order.now (slot_counts K.Storage keepers.old.items) }
     ensures answered { OnOk result ((answer : Option ℕ) × ((text : List ℕ)
         × (IsAnswered (source_of console.old (told_by K.Storage keepers.old.items)) order.now answer text
         (moment console.old steps.old (calls_to K.Storage keepers.old.items) (O.call_count out.old))
@@ -81,7 +81,7 @@ pub fn answer_all<K: Keeper, O: Sink, L: Ledger>(
     out: &mut O,
     steps: &mut Steps<L>,
 ) -> Result<(), Stop>
-    requires { AwaitsOrders console.old orders.now (map K.slot_count keepers.old.items) }
+    requires { AwaitsOrders console.old orders.now (slot_counts K.Storage keepers.old.items) }
 
     // What was answered and written, by the fetched bytes.
     ensures answers { AreAnsweredBy (source_of console.old (told_by K.Storage keepers.old.items)) orders.now result

@@ -1,7 +1,7 @@
 // Searching a run for a state from its marks.
-ghost use Rattle.std.specs.Prelude.{◌≡◌, ◌+◌, ◌-◌, ◌<◌, ◌≤◌, ◌↔◌, map, unwrap_or, IfOk, IsTrue};
+ghost use Rattle.std.specs.Prelude.{◌≡◌, ◌+◌, ◌-◌, ◌<◌, ◌≤◌, ◌↔◌, unwrap_or, IfOk, IsTrue};
 ghost use Rattle.rv_machine.specs.Prelude.{state_number, next};
-ghost use Rattle.reverse_runner.specs.Prelude.{told_by, SamePages};
+ghost use Rattle.reverse_runner.specs.Prelude.{told_by, SamePages, slot_counts};
 ghost use Rattle.reverse_queries.specs.Prelude.{IsLast};
 ghost use Rattle.reverse_console.specs.Answer.{IsFirst};
 ghost use Rattle.reverse_console.specs.Costs.{looking_back, looking_on, BreaksBack, BreaksOn};
@@ -112,7 +112,7 @@ pub(crate) fn last_before<K: Keeper, L: Ledger>(
 ) -> Result<Option<u32>, RunFault>
     requires within { place ≤ marks.now.count }
     requires sought { IsSought sought.now }
-    requires ready { IsReady marks.now desk.old (map K.slot_count keepers.old.items) }
+    requires ready { IsReady marks.now desk.old (slot_counts K.Storage keepers.old.items) }
     ensures seen { IfOk result (IsLastSeen (source marks.now journal.now desk.old (told_by K.Storage keepers.old.items)) (Meets sought.now journal.now) place) }
     ensures looks { Looks K.Storage marks.now journal.now
         (looking_back marks.now place) (BreaksBack marks.now place) result desk.old desk.new keepers.old.items keepers.new.items steps.old steps.new }
@@ -144,7 +144,7 @@ pub(crate) fn first_after<K: Keeper, L: Ledger>(
     steps: &mut Steps<L>,
 ) -> Result<Option<u32>, RunFault>
     requires before_end { place < marks.now.count }
-    requires ready { IsReady marks.now desk.old (map K.slot_count keepers.old.items) }
+    requires ready { IsReady marks.now desk.old (slot_counts K.Storage keepers.old.items) }
     ensures seen { IfOk result (IsFirstSeen (source marks.now journal.now desk.old (told_by K.Storage keepers.old.items)) (HasPc address) place marks.now.count) }
     ensures looks { Looks K.Storage marks.now journal.now
         (looking_on marks.now place) (BreaksOn marks.now place) result desk.old desk.new keepers.old.items keepers.new.items steps.old steps.new }

@@ -24,6 +24,7 @@ use Rattle.rv_machine.specs.MachineState.{MachineState, IsMachineState}
 use Rattle.reverse_runner.specs.declared.fault.RunFault.{RunFault}
 use Rattle.reverse_runner.specs.ActionEffects.{Holdings, Acts}
 use Rattle.reverse_runner.specs.CallOutcome.{VisitorAfter}
+use Rattle.reverse_runner.specs.declared.visitor.Visitor as visitor
 use Rattle.reverse_runner.specs.Desks.{KeepersAre}
 use Rattle.reverse_runner.specs.KeepersSeen.{Calls, Called, CalledAtMost, CalledBetween, told_by, calls_to, calls_of, is_release, HaveRoom}
 use Rattle.reverse_runner.specs.SessionState.{SessionState, SamePages, levels_of, holdings_of}
@@ -312,5 +313,5 @@ run_has first old mid told front a d start_ so_far goes stands =
 pub ok_spared : {A : Type 0} (x : A) (session : SessionState) (told : ℕ → Option Images) (rooms : ℕ → Option ℕ) → IsSpared (Ok x) session told rooms
 ok_spared x session told rooms = record { not_ended = λ e. cc; roomy = λ roomy e. cc; undamaged = λ first is stands k put got e. cc }
 
-pub ok_seen : {A V : Type 0} (faults : V → ℕ) (x : A) (v w : V) → faults w ≡ faults v → VisitorAfter faults (Ok x) v w
-ok_seen faults x v w same = record { unseen = tt; faults = record { cause = λ e. absurd cc; quiet = λ never. same; later = omega (arith, same) } }
+pub ok_seen : {A V : Type 0} (g : visitor.Ghosts V) (x : A) (v w : V) → g.fault_count w ≡ g.fault_count v → VisitorAfter g (Ok x) v w
+ok_seen g x v w same = record { unseen = tt; faults = record { cause = λ e. absurd cc; quiet = λ never. same; later = omega (arith, same) } }

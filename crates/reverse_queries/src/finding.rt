@@ -1,10 +1,11 @@
 // The last step of a run that writes or changes a word.
-ghost use Rattle.std.specs.Prelude.{◌≡◌, ◌≤◌, ◌↔◌, map, None, IsTrue};
+ghost use Rattle.std.specs.Prelude.{◌≡◌, ◌≤◌, ◌↔◌, None, IsTrue};
 ghost use Rattle.rv_pages.specs.declared.pages.TheConstants.{LAST_WORD};
 ghost use Rattle.reverse_queries.specs.Queries.{word_bytes};
 ghost use Rattle.reverse_queries.specs.ListPerformance.{AwaitsList};
 ghost use Rattle.reverse_queries.specs.QuestionEffects.{FindsLast};
 ghost use Rattle.reverse_queries.specs.FinderModel.{DoesWhatIsAsked, Finds, Got};
+ghost use Rattle.reverse_runner.specs.Prelude.{slot_counts};
 
 use crate::finder::{Finder, Sought};
 use crate::memory_word::{bytes_of_word, some_differ};
@@ -75,7 +76,7 @@ pub(crate) fn find_last<K: Keeper, L: Ledger>(
     word: u32,
     steps: &mut Steps<L>,
 ) -> Result<Option<u32>, RunFault>
-    requires awaits { AwaitsList session.old list.now (map K.slot_count keepers.old.items) }
+    requires awaits { AwaitsList session.old list.now (slot_counts K.Storage keepers.old.items) }
     requires word { word ≤ LAST_WORD }
     ensures { FindsLast K.Storage (DoesWhatIsAsked question session.old.journal word) result list.now session.old session.new
         keepers.old.items keepers.new.items steps.old steps.new }

@@ -1,7 +1,7 @@
 // The questions on a run.
-ghost use Rattle.std.specs.Prelude.{◌*◌, ◌≤◌, ◌<◌, length, map, IfErr, OnOk};
+ghost use Rattle.std.specs.Prelude.{◌*◌, ◌≤◌, ◌<◌, length, IfErr, OnOk};
 ghost use Rattle.rv_pages.specs.declared.pages.TheConstants.{LAST_WORD};
-ghost use Rattle.reverse_runner.specs.Prelude.{Stays, VisitorAfter, KeepersAre, told_by, calls_to, rooms_by, holdings_of};
+ghost use Rattle.reverse_runner.specs.Prelude.{Stays, VisitorAfter, KeepersAre, told_by, calls_to, rooms_by, holdings_of, slot_counts};
 ghost use Rattle.reverse_queries.specs.Queries.{WritesIn, ChangesIn, front_to};
 ghost use Rattle.reverse_queries.specs.QuestionEffects.{Performed, IsSpared, FindsLast};
 ghost use Rattle.reverse_queries.specs.HoldingsTrace.{IsFoundOn};
@@ -26,7 +26,7 @@ pub fn state_at<K: Keeper, V: Visitor, L: Ledger>(
     visitor: &mut V,
     steps: &mut Steps<L>,
 ) -> Result<(), RunFault>
-    requires awaits { AwaitsList session.old list.now (map K.slot_count keepers.old.items) }
+    requires awaits { AwaitsList session.old list.now (slot_counts K.Storage keepers.old.items) }
     requires place { place ≤ session.old.unit * session.old.situation.steps }
 
     // The visitor gets one state under this number, among those given on the way. If the session is at its start, that
@@ -48,7 +48,7 @@ pub fn state_at<K: Keeper, V: Visitor, L: Ledger>(
         steps.old steps.new (calls_to K.Storage keepers.old.items)
         (calls_to K.Storage keepers.new.items)) }
     ensures spared { IsSpared result session.old (told_by K.Storage keepers.old.items) (rooms_by K.Storage keepers.old.items) }
-    ensures seen { VisitorAfter V.fault_count result visitor.old visitor.new }
+    ensures seen { VisitorAfter V.Visitor result visitor.old visitor.new }
     ensures kept { KeepersAre K.Storage (λ k. k < length session.old.situation.slots) result keepers.old.items keepers.new.items }
 {
     let mut picked = Picked::new(place, visitor);
@@ -70,7 +70,7 @@ pub fn last_write<K: Keeper, L: Ledger>(
     word: u32,
     steps: &mut Steps<L>,
 ) -> Result<Option<u32>, RunFault>
-    requires awaits { AwaitsList session.old list.now (map K.slot_count keepers.old.items) }
+    requires awaits { AwaitsList session.old list.now (slot_counts K.Storage keepers.old.items) }
     requires word { word ≤ LAST_WORD }
     ensures { FindsLast K.Storage (λ states. WritesIn states session.old.journal word) result list.now session.old session.new keepers.old.items keepers.new.items
         steps.old steps.new }
@@ -87,7 +87,7 @@ pub fn last_change<K: Keeper, L: Ledger>(
     word: u32,
     steps: &mut Steps<L>,
 ) -> Result<Option<u32>, RunFault>
-    requires awaits { AwaitsList session.old list.now (map K.slot_count keepers.old.items) }
+    requires awaits { AwaitsList session.old list.now (slot_counts K.Storage keepers.old.items) }
     requires word { word ≤ LAST_WORD }
     ensures { FindsLast K.Storage (λ states. ChangesIn states word) result list.now session.old session.new keepers.old.items keepers.new.items
         steps.old steps.new }

@@ -107,7 +107,7 @@ are_wider g T U r ks ls wide a = record {
 }
 
 -- a fault that is passed on
-passed : {A B : Type 0} (r : Result A RunFault) (s : Result B RunFault) (x y z : RunFault) → r ≡ Err x → s ≡ Err y → y ≡ x → s ≡ Err z → r ≡ Err z
+pub passed : {A B : Type 0} (r : Result A RunFault) (s : Result B RunFault) (x y z : RunFault) → r ≡ Err x → s ≡ Err y → y ≡ x → s ≡ Err z → r ≡ Err z
 passed r s x y z first second same last = cc
 
 -- an answer that says of the same keepers that they failed

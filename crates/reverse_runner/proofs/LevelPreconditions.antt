@@ -11,12 +11,12 @@ use Rattle.plan_types.specs.declared.action.Keep.TheVariants.{Nothing, Store, Ta
 use Rattle.plan_types.specs.declared.action.Keep.{Keep}
 use Rattle.level_book.specs.declared.book.Slots.{Slots}
 use Rattle.level_book.specs.declared.book.Slots.TheVariants.{Count}
-use Rattle.level_book.specs.Configuration.{Configuration, held_on, with_held}
+use Rattle.level_book.specs.Configuration.{Configuration, held_on}
 use Rattle.level_book.specs.Moves.{IsFree, IsHeld}
 use Rattle.level_book.specs.CostFold.{is_write}
 use Rattle.level_book.specs.Rules.{rule, levels_named}
 use Rattle.schedule_rules.specs.Reachability.{IsSound}
-use Rattle.schedule_rules.proofs.MovesByRules.{goes, unbroken}
+use Rattle.schedule_rules.proofs.MovesByRules.{goes}
 use Rattle.sha2.specs.Sha256.{sha256}
 use Rattle.keepers.specs.Claims.{Images}
 use Rattle.keepers.specs.declared.storage.Storage.{Ghosts}
@@ -236,15 +236,6 @@ damage_moves n k dest s j put got d = record {
   got_digest = d.got_digest;
   wrong = d.wrong;
 }
-
--- a Move that breaks no rule is a Copy that breaks none
-pub move_may_copy : (steps : ℕ) (slots : List Slots) (c : Configuration) (n k : ℕ) (dest : Dest) → IsSound steps slots c → rule steps slots c (Move n k dest) ≡ 0 → rule steps slots c (Copy n k dest) ≡ 0
-move_may_copy steps slots c n k Work sound e =
-    let g = goes steps slots c (Move n k Work) e in
-    unbroken steps slots c (Copy n k Work) (record c { work = n }) sound.within (g.0, g.1, refl)
-move_may_copy steps slots c n k (Level j) sound e =
-    let g = goes steps slots c (Move n k (Level j)) e in
-    unbroken steps slots c (Copy n k (Level j)) (with_held c n j) sound.within (g.0, g.1, g.2, g.3, refl)
 
 -- the level that a Copy reads is as before
 pub copy_keeps_source : (unit : ℕ) (journal : List (List ℕ)) (n k : ℕ) (dest : Dest) (a b : Holdings) → ((j : ℕ) → dest ≡ Level j → j ≢ k) → Acts unit journal (Copy n k dest) a b → IsAsBefore a.levels b.levels k

@@ -1,9 +1,7 @@
 -- The tape of a session, as its workspace holds it, and how its states are handed out.
 use Rattle.std.proofs.Common.{◌≡◌, ℕ, zero, suc, ◌-◌, ◌*◌, inl, inr, List, [], ◌∷◌, ◌++◌, length, map, refl, sym, ap, subst, ◌∙◌, arith, Option, MatchOption}
 use Rattle.plan_types.specs.declared.action.Keep.TheVariants.{Tape}
-use Rattle.plan_types.specs.declared.action.Dest.{Dest}
-use Rattle.plan_types.specs.declared.action.Dest.TheVariants.{Work, Level}
-use Rattle.plan_types.specs.declared.action.Action.TheVariants.{Forward, Copy, Move}
+use Rattle.plan_types.specs.declared.action.Action.TheVariants.{Forward}
 use Rattle.level_book.specs.declared.book.Slots.{Slots}
 use Rattle.level_book.specs.Configuration.{Configuration}
 use Rattle.level_book.specs.Moves.{Goes}
@@ -46,14 +44,6 @@ units_kept unit steps journal c d w x undo tape h =
       same = ap (λ (u : UndoState). u.unit) undo ∙ h.same;
       small = h.small;
     }
-
-pub copy_tape : (steps : ℕ) (slots : List Slots) (c : Configuration) (n k : ℕ) (dest : Dest) (d : Configuration) → Goes steps slots c (Copy n k dest) d → d.tape ≡ c.tape
-copy_tape steps slots c n k Work d g = ap (λ (x : Configuration). x.tape) g.2
-copy_tape steps slots c n k (Level j) d g = ap (λ (x : Configuration). x.tape) g.4
-
-pub move_tape : (steps : ℕ) (slots : List Slots) (c : Configuration) (n k : ℕ) (dest : Dest) (d : Configuration) → Goes steps slots c (Move n k dest) d → d.tape ≡ c.tape
-move_tape steps slots c n k Work d g = ap (λ (x : Configuration). x.tape) g.2
-move_tape steps slots c n k (Level j) d g = ap (λ (x : Configuration). x.tape) g.4
 
 -- a unit was put on the tape
 pub units_put : (unit steps from to : ℕ) (journal : List (List ℕ)) (slots : List Slots) (c d : Configuration) (w x : Workspace) (first : MachineState) → Goes steps slots c (Forward from to Tape) d →

@@ -5,6 +5,7 @@ use Rattle.keepers.specs.Claims.{Images}
 use Rattle.rv_machine.specs.MachineState.{MachineState, IsMachineState}
 use Rattle.reverse_runner.specs.declared.fault.RunFault.{RunFault}
 use Rattle.reverse_runner.specs.declared.fault.RunFault.TheVariants.{Visitor}
+use Rattle.reverse_runner.specs.declared.visitor.Visitor.{Ghosts}
 use Rattle.reverse_runner.specs.HoldingsOfRun.{AreAlone}
 use Rattle.reverse_runner.specs.SessionState.{SessionState, levels_of}
 use Rattle.reverse_runner.specs.SessionOfRun.{StandsAt}
@@ -21,6 +22,6 @@ pub record FaultsAfter {A V : Type 0} (fault_count : V → ℕ) (result : Result
   pub later : fault_count old ≤ fault_count new
 
 -- So it is with the visitor. After another refusal it is unchanged.
-pub record VisitorAfter {A V : Type 0} (fault_count : V → ℕ) (result : Result A RunFault) (old new : V) : Type 0 where
+pub record VisitorAfter {A V : Type 0} (g : Ghosts V) (result : Result A RunFault) (old new : V) : Type 0 where
   pub unseen : OnErr result (result ≢ Err Visitor → new ≡ old)
-  pub faults : FaultsAfter fault_count result old new
+  pub faults : FaultsAfter g.fault_count result old new

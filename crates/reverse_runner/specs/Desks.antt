@@ -5,7 +5,7 @@ use Rattle.keepers.specs.declared.storage.Storage.{Ghosts}
 use Rattle.image_store.specs.declared.shelf.StoreFault.{StoreFault}
 use Rattle.reverse_runner.specs.declared.fault.RunFault.{RunFault}
 use Rattle.reverse_runner.specs.declared.fault.RunFault.TheVariants.{Keeper}
-use Rattle.reverse_runner.specs.KeepersSeen.{by_number}
+use Rattle.reverse_runner.specs.KeepersSeen.{by_number, slot_counts}
 use Rattle.reverse_runner.specs.KeeperCallEffects.{fault_on}
 
 -- what a call on the storage of level k answers, by what its store answers
@@ -27,7 +27,7 @@ pub record CallsAt {K A : Type 0} (k : ℕ) (Does : Result A StoreFault → K �
 -- failed is one that the call may touch. Its count of faults rose, and no other count changed. The keepers that the call
 -- may not touch are unchanged.
 pub record KeepersAre {K A : Type 0} (g : Ghosts K) (MayTouch : ℕ → Type 0) (result : Result A RunFault) (old new : List K) : Type 0 where
-  pub slots : map g.slot_count new ≡ map g.slot_count old
+  pub slots : slot_counts g new ≡ slot_counts g old
   pub places : map g.place new ≡ map g.place old
   pub rooms : (k : ℕ) → by_number None g.room_bytes new k ≡ by_number None g.room_bytes old k
   pub cause : (k : ℕ) → result ≡ Err (Keeper k) → MayTouch k × Rose (by_number 0 g.fault_count old k) (by_number 0 g.fault_count new k)

@@ -1,5 +1,5 @@
 -- The keepers of a session by the numbers of their levels: what they claim, and how often they were called.
-use Rattle.std.specs.Prelude.{◌≡◌, ℕ, ◌==◌, ◌<◌, ◌≤◌, Bool, false, cond, List, length, slice_get, slice_index_or, Option, None}
+use Rattle.std.specs.Prelude.{◌≡◌, ℕ, ◌==◌, ◌<◌, ◌≤◌, Bool, false, cond, List, length, map, slice_get, slice_index_or, Option, None}
 use Rattle.std.specs.Option.{option_map_or}
 use Rattle.keepers.specs.Counts.{raised}
 use Rattle.keepers.specs.Claims.{Images}
@@ -18,6 +18,10 @@ by_number nothing seen keepers k = option_map_or seen (slice_get keepers k) noth
 -- what the keepers claim
 abbrev pub told_by : {K : Type 0} → Ghosts K → List K → ℕ → Option Images
 told_by seen keepers = by_number None seen.told keepers
+
+-- their numbers of slots
+abbrev pub slot_counts : {K : Type 0} → Ghosts K → List K → List ℕ
+slot_counts seen keepers = map seen.slot_count keepers
 
 -- Each level of a book has a keeper. It has as many slots as a run of so many steps can use there. The keepers are
 -- given by their numbers of slots.

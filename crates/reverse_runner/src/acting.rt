@@ -1,11 +1,7 @@
 // What an action does to the states and the images of a session.
-ghost use Rattle.std.specs.Prelude.{◌≡◌, ◌≢◌, ℕ, List, map, Err, OnOk, OnErr, IfErr, IsTrue};
+ghost use Rattle.std.specs.Prelude.{◌≡◌, ◌≢◌, ℕ, List, Err, OnOk, OnErr, IfErr, IsTrue};
 ghost use Rattle.level_book.specs.Prelude.{Configuration, Goes, rule};
-ghost use Rattle.reverse_runner.specs.CallOutcome.{VisitorAfter};
-ghost use Rattle.reverse_runner.specs.StateOrder.{handed_by};
-ghost use Rattle.reverse_runner.specs.VisitorCalls.{states_out, HandsOut, calls_keepers};
-ghost use Rattle.reverse_runner.specs.KeeperCallEffects.{IsOfStorage};
-ghost use Rattle.reverse_runner.specs.Workspaces.{IsReady, HasUnits, Ends, tape_in};
+ghost use Rattle.reverse_runner.specs.Prelude.{VisitorAfter, handed_by, states_out, HandsOut, calls_keepers, IsOfStorage, IsReady, HasUnits, Ends, tape_in, slot_counts};
 
 use crate::fault::RunFault;
 use crate::visitor::{Visitor, hand_out};
@@ -28,7 +24,7 @@ pub(crate) fn act<K: Keeper, V: Visitor, L: Ledger>(
     visitor: &mut V,
     steps: &mut Steps<L>,
 ) -> Result<(), RunFault>
-    requires ready { IsReady config.now.steps config.now.slots config.now.at space.old (map K.slot_count keepers.old.items) }
+    requires ready { IsReady config.now.steps config.now.slots config.now.at space.old (slot_counts K.Storage keepers.old.items) }
     requires units { HasUnits unit journal.now config.now.steps config.now.at space.old }
     requires allowed { rule config.now.steps config.now.slots config.now.at action.now ≡ 0 }
     ensures ends { Ends K.Storage result unit journal.now config.now action.now space.old space.new keepers.old.items keepers.new.items
@@ -38,7 +34,7 @@ pub(crate) fn act<K: Keeper, V: Visitor, L: Ledger>(
     ensures lasting { result ≢ Err RunFault.Ended }
     ensures hands { HandsOut V.got V.missed journal.now (handed_by unit config.now.steps action.now)
         (states_out action.now space.old.desk.work (tape_in space.old).states) result visitor.old visitor.new }
-    ensures seen { VisitorAfter V.fault_count result visitor.old visitor.new }
+    ensures seen { VisitorAfter V.Visitor result visitor.old visitor.new }
 {
     match *action {
         Action::Forward { from, to, keep } => {
@@ -46,7 +42,10 @@ pub(crate) fn act<K: Keeper, V: Visitor, L: Ledger>(
         }
         Action::Reverse { to, .. } => space.hand_back(unit * to, visitor, journal),
         Action::Copy { n, from, dest } => copy(space, config, keepers, n, from, dest),
-        Action::Move { n, from, dest } => move_(space, config, keepers, n, from, dest),
+        Action::Move { n, from, dest } => {
+            copy(space, config, keepers, n, from, dest)?;
+            space.desk.release(keepers, from, n)
+        }
         Action::EndForward => hand_out(visitor, unit * config.work(), &space.desk.work, journal),
         Action::EndReverse => Ok(()),
     }
@@ -64,7 +63,7 @@ fn forward<K: Keeper, L: Ledger>(
     keepers: &mut Vec<K>,
     steps: &mut Steps<L>,
 ) -> Result<(), RunFault>
-    requires ready { IsReady config.now.steps config.now.slots config.now.at space.old (map K.slot_count keepers.old.items) }
+    requires ready { IsReady config.now.steps config.now.slots config.now.at space.old (slot_counts K.Storage keepers.old.items) }
     requires units { HasUnits unit journal.now config.now.steps config.now.at space.old }
     requires allowed { rule config.now.steps config.now.slots config.now.at (Action.Forward from to keep) ≡ 0 }
     ensures ends { Ends K.Storage result unit journal.now config.now (Action.Forward from to keep) space.old space.new
@@ -96,7 +95,7 @@ fn copy<K: Keeper>(
     from: u8,
     dest: Dest,
 ) -> Result<(), RunFault>
-    requires ready { IsReady config.now.steps config.now.slots config.now.at space.old (map K.slot_count keepers.old.items) }
+    requires ready { IsReady config.now.steps config.now.slots config.now.at space.old (slot_counts K.Storage keepers.old.items) }
     requires allowed { rule config.now.steps config.now.slots config.now.at (Action.Copy n from dest) ≡ 0 }
     ensures ends { (unit : ℕ) (journal : List (List ℕ)) (steps : ℕ) → Ends K.Storage result unit journal config.now (Action.Copy n from dest)
         space.old space.new keepers.old.items keepers.new.items steps steps }
@@ -108,24 +107,4 @@ fn copy<K: Keeper>(
         Dest::Work => space.desk.decode(from, &digest),
         Dest::Level(to) => space.desk.keep(keepers, to, n, &digest),
     }
-}
-
-// Copies it, and then releases the image where it came from.
-fn move_<K: Keeper>(
-    space: &mut Workspace,
-    config: &Config,
-    keepers: &mut Vec<K>,
-    n: u32,
-    from: u8,
-    dest: Dest,
-) -> Result<(), RunFault>
-    requires ready { IsReady config.now.steps config.now.slots config.now.at space.old (map K.slot_count keepers.old.items) }
-    requires allowed { rule config.now.steps config.now.slots config.now.at (Action.Move n from dest) ≡ 0 }
-    ensures ends { (unit : ℕ) (journal : List (List ℕ)) (steps : ℕ) → Ends K.Storage result unit journal config.now (Action.Move n from dest)
-        space.old space.new keepers.old.items keepers.new.items steps steps }
-    ensures fault { IfErr result IsOfStorage }
-    ensures undo { space.new.undo ≡ space.old.undo }
-{
-    copy(space, config, keepers, n, from, dest)?;
-    space.desk.release(keepers, from, n)
 }

@@ -4,10 +4,7 @@ ghost use Rattle.level_book.specs.Prelude.{slots_of};
 ghost use Rattle.rv_machine.specs.Prelude.{state_number};
 ghost use Rattle.image_store.specs.Prelude.{kept_at, no_pairs_on};
 ghost use Rattle.sha2.specs.Sha256.{sha256};
-ghost use Rattle.reverse_runner.specs.ActionEffects.{IsDecoded};
-ghost use Rattle.reverse_runner.specs.DeskGives.{IsOnLevel, MayKeep, KeepGives, FetchGives, ReleaseGives};
-ghost use Rattle.reverse_runner.specs.SessionState.{SamePages};
-ghost use Rattle.reverse_runner.specs.SessionOfRun.{IsNoImage};
+ghost use Rattle.reverse_runner.specs.Prelude.{IsDecoded, IsOnLevel, MayKeep, KeepGives, FetchGives, ReleaseGives, SamePages, IsNoImage};
 
 use crate::fault::RunFault;
 use crate::known_state::KnownState;

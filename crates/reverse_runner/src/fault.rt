@@ -1,6 +1,6 @@
 // Why an action is not performed.
 ghost use Rattle.std.specs.Prelude.{◌≡◌};
-ghost use Rattle.reverse_runner.specs.KeeperCallEffects.{fault_on};
+ghost use Rattle.reverse_runner.specs.Prelude.{fault_on};
 
 use image_store::StoreFault;
 use thiserror::Error;

@@ -6,8 +6,7 @@ ghost use Rattle.state_image.specs.Prelude.{image, first_wrong, first_unmapped, 
 ghost use Rattle.unit_undo.specs.Prelude.{Entry, undone, CanGoBack};
 ghost use Rattle.unit_digests.specs.Prelude.{states_of, AreDigests};
 ghost use Rattle.sha2.specs.Sha256.{sha256};
-ghost use Rattle.reverse_runner.specs.ActionEffects.{IsDecoded};
-ghost use Rattle.reverse_runner.specs.SessionOfRun.{IsNoImage};
+ghost use Rattle.reverse_runner.specs.Prelude.{IsDecoded, IsNoImage};
 
 use input_journal::Journal;
 use plan_types::Line;

@@ -9,15 +9,7 @@ ghost use Rattle.input_journal.specs.Prelude.{IsRecorded};
 ghost use Rattle.rv_machine.specs.Prelude.{MachineState, IsMachineState};
 ghost use Rattle.keepers.specs.Prelude.{Images};
 ghost use Rattle.image_store.specs.Prelude.{IsToldAnd};
-ghost use Rattle.reverse_runner.specs.ActionEffects.{Holdings, Acts};
-ghost use Rattle.reverse_runner.specs.Collision.{StandsByDigests, Collides};
-ghost use Rattle.reverse_runner.specs.HoldingsOfRun.{HoldingsStandAt, AreAlone, IsLaidOut};
-ghost use Rattle.reverse_runner.specs.KeeperContents.{HoldsJust};
-ghost use Rattle.reverse_runner.specs.KeepersSeen.{is_release};
-ghost use Rattle.reverse_runner.specs.RefusalResidue.{Spares, MayLeave, HoldsBesides, HoldsAllBut};
-ghost use Rattle.reverse_runner.specs.SessionOfRun.{pair_read};
-ghost use Rattle.reverse_runner.specs.Units.{unit_states};
-ghost use Rattle.reverse_runner.specs.StateOrder.{handed, countdown};
+ghost use Rattle.reverse_runner.specs.Prelude.{Holdings, Acts, StandsByDigests, Collides, HoldingsStandAt, AreAlone, IsLaidOut, HoldsJust, is_release, Spares, MayLeave, HoldsBesides, HoldsAllBut, pair_read, unit_states, handed, countdown};
 
 /// A valid list gives the visitor all states from the last to state 0, each once.
 pub fn valid_lists_hand_out_all()

@@ -1,21 +1,12 @@
 // A session: a run that the actions of a schedule go over.
-ghost use Rattle.std.specs.Prelude.{◌≡◌, ◌*◌, ◌<◌, ◌≤◌, ◌↔◌, ℕ, true, false, length, map, Option, Some, Err, IfOk, OnOk, IsErrOf, IsSome, Contains};
+ghost use Rattle.std.specs.Prelude.{◌≡◌, ◌*◌, ◌<◌, ◌≤◌, ◌↔◌, ℕ, true, false, length, Option, Some, Err, IfOk, OnOk, IsErrOf, IsSome, Contains};
 ghost use Rattle.std.specs.FinMap as finmap;
 ghost use Rattle.std.specs.List.{AllByRecursion};
 ghost use Rattle.plan_types.specs.declared.limits.TheConstants.{MOST_STEPS};
 ghost use Rattle.level_book.specs.Prelude.{slots_of, rule, levels_named};
 ghost use Rattle.unit_digests.specs.Prelude.{HasPages};
 ghost use Rattle.keepers.specs.Prelude.{Images};
-ghost use Rattle.reverse_runner.specs.ActionOutcome.{ActionEnds, HasReason, IsSafe};
-ghost use Rattle.reverse_runner.specs.CallOutcome.{Stays, VisitorAfter};
-ghost use Rattle.reverse_runner.specs.Desks.{KeepersAre};
-ghost use Rattle.reverse_runner.specs.KeepersSeen.{told_by, calls_to, HaveRoom};
-ghost use Rattle.reverse_runner.specs.HoldingsOfRun.{AreAlone};
-ghost use Rattle.reverse_runner.specs.StateOrder.{handed_by};
-ghost use Rattle.reverse_runner.specs.VisitorCalls.{states_out, HandsOut};
-ghost use Rattle.reverse_runner.specs.Rooms.{rooms_by};
-ghost use Rattle.reverse_runner.specs.SessionState.{levels_of, holdings_of};
-ghost use Rattle.reverse_runner.specs.SessionOfRun.{begun, SessionAfter, StandsAt};
+ghost use Rattle.reverse_runner.specs.Prelude.{ActionEnds, HasReason, IsSafe, Stays, VisitorAfter, KeepersAre, told_by, calls_to, HaveRoom, slot_counts, AreAlone, handed_by, states_out, HandsOut, rooms_by, levels_of, holdings_of, begun, SessionAfter, StandsAt};
 
 use crate::acting::act;
 use crate::fault::RunFault;
@@ -134,7 +125,7 @@ impl Session {
         steps: &mut Steps<L>,
     ) -> Result<(), RunFault>
         requires allowed { self.old.ended ≡ false → rule self.old.situation.steps self.old.situation.slots self.old.situation.at action.now ≡ 0 }
-        requires room { self.old.ended ≡ false → HaveRoom self.old.situation.steps self.old.situation.slots (map K.slot_count keepers.old.items) }
+        requires room { self.old.ended ≡ false → HaveRoom self.old.situation.steps self.old.situation.slots (slot_counts K.Storage keepers.old.items) }
 
         // A session that has ended does nothing.
         ensures ended { IsErrOf result RunFault.Ended ↔ (self.old.ended ≡ true) }
@@ -156,7 +147,7 @@ impl Session {
         ensures caused { HasReason result action.now (holdings_of self.old (told_by K.Storage keepers.old.items)) (told_by K.Storage keepers.new.items) }
         ensures spared { IsSafe result self.old.journal self.old.unit self.old.situation.at (holdings_of self.old (told_by K.Storage keepers.old.items))
             (length self.old.situation.slots) (rooms_by K.Storage keepers.old.items) }
-        ensures seen { VisitorAfter V.fault_count result visitor.old visitor.new }
+        ensures seen { VisitorAfter V.Visitor result visitor.old visitor.new }
 
         // What it leaves of the keepers. Those of levels that the action doesn't name are unchanged.
         ensures kept { KeepersAre K.Storage (λ k. Contains (levels_named action.now) k) result keepers.old.items keepers.new.items }

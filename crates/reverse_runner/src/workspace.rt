@@ -7,10 +7,7 @@ ghost use Rattle.rv_machine.specs.Prelude.{state_number};
 ghost use Rattle.unit_undo.specs.Prelude.{begun as begun_undo, IsMadeFor, LeadsBack, states_below};
 ghost use Rattle.unit_digests.specs.Prelude.{states_of, AreDigests, IsKnown, HasPages};
 ghost use Rattle.image_store.specs.Prelude.{no_pairs_on};
-ghost use Rattle.reverse_runner.specs.StateOrder.{numbers_from};
-ghost use Rattle.reverse_runner.specs.CallOutcome.{VisitorAfter};
-ghost use Rattle.reverse_runner.specs.VisitorCalls.{HandsOut};
-ghost use Rattle.reverse_runner.specs.SessionState.{SamePages};
+ghost use Rattle.reverse_runner.specs.Prelude.{numbers_from, VisitorAfter, HandsOut, SamePages};
 
 use crate::desk::Desk;
 use crate::fault::RunFault;
@@ -18,6 +15,7 @@ use crate::known_state::KnownState;
 use crate::visitor::{Visitor, hand_out};
 use input_journal::Journal;
 use level_book::Book;
+use plan_types::NoGate;
 use rv_machine::{State, Steps};
 use std::alloc::{AllocError, Global};
 use std::sync::ledger::Ledger;
@@ -114,7 +112,7 @@ impl Workspace {
         ensures pages { SamePages self.new.tape self.old.tape }
         ensures desk { self.new.desk ≡ self.old.desk }
         ensures fault { OnErr result (result ≡ Err RunFault.Visitor) }
-        ensures seen { VisitorAfter V.fault_count result visitor.old visitor.new }
+        ensures seen { VisitorAfter V.Visitor result visitor.old visitor.new }
     {
         while self.undo.count() > 0 {
             self.tape.back(&mut self.undo, self.known.as_slice());
@@ -138,7 +136,7 @@ impl Workspace {
         ensures pages { digesters.new ≡ digesters.old }
     {
         self.undo.is_short();
-        digesters.digest(rt, self.tape.state(), &self.undo, &mut self.known);
+        digesters.digest(rt, &NoGate, self.tape.state(), &self.undo, &mut self.known);
     }
 }
 

@@ -1,5 +1,5 @@
 // How the steps of a run are observed.
-ghost use Rattle.std.specs.Prelude.{◌≡◌, ℕ, ◌+◌, ◌<◌, ◌≤◌, ◌^◌, false, is_some};
+ghost use Rattle.std.specs.Prelude.{◌≡◌, ℕ, ◌+◌, ◌<◌, ◌≤◌, ◌^◌, ◌&&◌, ◌||◌, false, is_some};
 ghost use Rattle.rv_machine.specs.Prelude.{state_number, Ends, GoesOn};
 ghost use Rattle.run_timeline.specs.StepObservations.{breaks_at, is_hit, seen, writes_from, IsLastSeen};
 
@@ -8,70 +8,31 @@ use input_journal::Journal;
 use rv_machine::{Next, State, Steps, Stop, Watch, advance_until, advance_watched};
 use std::sync::ledger::Ledger;
 
-// Stops a run at a breakpoint, and before a step that writes a watched byte.
-impl Stop for Stops {
-    ghost stops = { is_hit };
+// Stops a run at a breakpoint, before a step that writes a watched byte, or both.
+#[derive(Drop)]
+struct Hits<'a, const BREAKS: bool, const WRITES: bool> {
+    stops: &'a Stops,
+}
 
-    ghost is_at = { breaks_at };
+impl<'a, const BREAKS: bool, const WRITES: bool> Stop for Hits<'a, BREAKS, WRITES> {
+    ghost stops = { λ hits s journal. (BREAKS && breaks_at hits.stops.now s) || (WRITES && is_some (writes_from hits.stops.now journal s)) };
+
+    ghost is_at = { λ hits s. BREAKS && breaks_at hits.stops.now s };
 
     #[inline(always)]
     fn is_at(&self, state: &State) -> bool {
-        self.breaks(state)
+        BREAKS && self.stops.breaks(state)
     }
 
     #[inline(always)]
     fn stops(&self, state: &State, journal: &Journal, next: &Next) -> bool {
-        self.writes(state, journal, next).is_some()
-    }
-}
-
-// A run is stopped before a step that writes a watched byte.
-#[derive(Drop)]
-struct Writes<'a> {
-    stops: &'a Stops,
-}
-
-impl<'a> Stop for Writes<'a> {
-    ghost stops = { λ writes s journal. is_some (writes_from writes.stops.now journal s) };
-
-    ghost is_at = { λ _ _. false };
-
-    #[inline(always)]
-    fn is_at(&self, _state: &State) -> bool {
-        false
-    }
-
-    #[inline(always)]
-    fn stops(&self, state: &State, journal: &Journal, next: &Next) -> bool {
-        self.stops.writes(state, journal, next).is_some()
-    }
-}
-
-// A run is stopped at a breakpoint.
-#[derive(Drop)]
-struct Breaks<'a> {
-    stops: &'a Stops,
-}
-
-impl<'a> Stop for Breaks<'a> {
-    ghost stops = { λ breaks s _. breaks_at breaks.stops.now s };
-
-    ghost is_at = { λ breaks s. breaks_at breaks.stops.now s };
-
-    #[inline(always)]
-    fn is_at(&self, state: &State) -> bool {
-        self.stops.breaks(state)
-    }
-
-    #[inline(always)]
-    fn stops(&self, _state: &State, _journal: &Journal, _next: &Next) -> bool {
-        false
+        WRITES && self.stops.writes(state, journal, next).is_some()
     }
 }
 
 // Stops a run nowhere.
 #[derive(Drop)]
-struct Never;
+pub(crate) struct Never;
 
 impl Stop for Never {
     ghost stops = { λ _ _ _. false };
@@ -117,22 +78,6 @@ impl<'a> Watch for Last<'a> {
     }
 }
 
-// Goes on by at most so many steps, to the first state that is stopped. It returns how many it took.
-pub(crate) fn go_on<L: Ledger>(
-    work: &mut State,
-    journal: &Journal,
-    count: u32,
-    steps: &mut Steps<L>,
-) -> u32
-    ensures within { result ≤ count }
-    ensures state { work.new ≡ state_number work.old journal.now result }
-    ensures counted { steps.new ≡ steps.old + result }
-    ensures before { (k : ℕ) → k < result → GoesOn (λ _ _. false) journal.now (state_number work.old journal.now k) }
-    ensures end { result < count → Ends (λ _ _. false) journal.now work.new }
-{
-    advance_until(work, journal, count, steps, &Never)
-}
-
 // Goes on by at most so many steps. It ends at the first stopped state, at a breakpoint, or before a step that writes a
 // watched byte. It returns how many it took.
 pub(crate) fn look_on<L: Ledger>(
@@ -149,12 +94,12 @@ pub(crate) fn look_on<L: Ledger>(
     ensures end { result < count → Ends (is_hit stops.now) journal.now work.new }
 {
     if stops.ranges.is_empty() {
-        return advance_until(work, journal, count, steps, &Breaks { stops });
+        return advance_until(work, journal, count, steps, &Hits::<true, false> { stops });
     }
     if stops.addresses.is_empty() {
-        return advance_until(work, journal, count, steps, &Writes { stops });
+        return advance_until(work, journal, count, steps, &Hits::<false, true> { stops });
     }
-    advance_until(work, journal, count, steps, stops)
+    advance_until(work, journal, count, steps, &Hits::<true, true> { stops })
 }
 
 // Goes on by so many steps from a place. Returns what a move backward over them hits first, and where.

@@ -11,11 +11,11 @@ ghost use Rattle.run_timeline.specs.UndoTrail.{Trails};
 ghost use Rattle.run_timeline.specs.WalkState.{IsFew};
 
 use crate::collector::Collector;
-use crate::looking::{go_on, look_back, look_on};
+use crate::looking::{Never, look_back, look_on};
 use crate::marks::Marks;
 use crate::stops::{Hit, Stops};
 use input_journal::Journal;
-use rv_machine::{Next, State, Status, Steps, advance, advance_watched};
+use rv_machine::{Next, State, Status, Steps, advance, advance_until, advance_watched};
 use std::alloc::{AllocError, Global};
 use std::marker::Model;
 use std::sync::ledger::Ledger;
@@ -229,7 +229,8 @@ impl Walk {
         ensures counted { steps.new + self.old.place ≡ steps.old + self.new.place }
     {
         let end = self.marks.end_towards(place);
-        let taken = go_on(&mut self.work, &self.journal, end - self.place, steps);
+        let count = end - self.place;
+        let taken = advance_until(&mut self.work, &self.journal, count, steps, &Never);
         self.place += taken;
         self.reached = self.reached.max(self.place);
         self.marks.pass(&self.work, self.place);

@@ -1,8 +1,8 @@
 // From a source to its words.
-ghost use Rattle.std.specs.Prelude.{◌≡◌, ◌≢◌, ◌⊎◌, ◌<◌, ◌^◌, ◌++◌, ℕ, List, [], length, MatchResult, IfOk, IfErr, OnOk};
+ghost use Rattle.std.specs.Prelude.{◌≡◌, ◌≢◌, ◌⊎◌, ◌<◌, ◌^◌, ℕ, List, [], length, MatchResult, IfOk, IfErr, OnOk};
 ghost use Rattle.std.specs.Str.{bytes_eq};
 ghost use Rattle.std.specs.Map.{lookup};
-ghost use Rattle.std.specs.Option.{option_or, option_to_list};
+ghost use Rattle.std.specs.Option.{option_or};
 ghost use Rattle.line_texts.specs.declared.fault.Fault.{Fault};
 ghost use Rattle.line_texts.specs.Prelude.{lines as lines_in, GivesUnlessMemory};
 ghost use Rattle.rv_asm.specs.Tokens.{tokens as tokens_of};
@@ -13,7 +13,7 @@ ghost use Rattle.rv_asm.specs.Encoder.{code_table, lines_from, source_of};
 use crate::label::{Label, Labels};
 use crate::line::{line, take_colon, words};
 use crate::tokens::line_tokens;
-use line_texts::{Fault, Lines};
+use line_texts::{Fault, Lines, push_found};
 use std::alloc::Global;
 
 /// The words of a source, or its first fault. It reads the text twice, for the labels and then for the words. It takes
@@ -117,19 +117,8 @@ fn words_of(alloc: Global, text: &[u8], labels: &Labels) -> Result<Vec<u32>, Fau
             Ok(found) => found,
             Err(fault) => return Err(fault.at(number)),
         };
-        add(&mut words, found)?;
+        push_found(&mut words, found)?;
         number += 1;
     }
     Ok(words)
-}
-
-// Adds a word to a list, if there is one.
-fn add(words: &mut Vec<u32>, found: Option<u32>) -> Result<(), Fault>
-    ensures added { OnOk result (words.new.items ≡ words.old.items ++ option_to_list found) }
-    ensures memory { IfErr result (λ e. e ≡ Fault.Memory) }
-{
-    if let Some(word) = found {
-        words.push(word)?;
-    }
-    Ok(())
 }

@@ -1,5 +1,4 @@
 pub mod Places
-pub mod ColumnExtension
 pub mod BelowSplits
 pub mod NoFailures
 pub mod Meanings

@@ -1,7 +1,7 @@
 -- No public clause cites this file. Columns of a table, which clauses fail at their entries, and which place is the first.
-use Rattle.std.specs.Prelude.{◌≡◌, ◌⊎◌, ℕ, ◌+◌, ◌-◌, ◌^◌, ◌<◌, ◌≤◌, List, length, Option, MatchOption, IfSome, Vec, slice_index, slice_index_or}
+use Rattle.std.specs.Prelude.{◌≡◌, ◌⊎◌, ℕ, ◌+◌, ◌-◌, ◌^◌, ◌<◌, ◌≤◌, Bool, true, false, List, length, Option, MatchOption, IfSome, Vec, slice_index, slice_index_or}
 use Rattle.std.specs.declared.alloc.Global.{Global}
-use Rattle.level_book.specs.BookCosts.{BookCosts}
+use Rattle.level_book.specs.BookCosts.{BookCosts, room}
 use Rattle.level_book.specs.UnderTable.{Entry, number, sum_of, write_cost, read_cost}
 use Rattle.cost_tables.specs.declared.cost.Cost.{Cost}
 use Rattle.cost_tables.specs.TableRows.{TableRows, tables_in}
@@ -10,7 +10,9 @@ use Rattle.table_clauses.specs.declared.search.LevelCosts.{LevelCosts}
 use Rattle.table_clauses.specs.declared.search.Pair.{Pair}
 use Rattle.table_clauses.specs.declared.search.FreshColumns.{FreshColumns}
 use Rattle.table_clauses.specs.declared.search.HeldColumns.{HeldColumns}
-use Rattle.table_clauses.specs.ClauseFailures.{IsAbove, IsFirst}
+use Rattle.table_clauses.specs.declared.search.Compared.{Compared}
+use Rattle.table_clauses.specs.declared.nested.TableLevel.{TableLevel}
+use Rattle.table_clauses.specs.ClauseFailures.{Breaks, IsAbove, IsFirst}
 use Rattle.table_clauses.specs.Splits.{at_step, AreBelowSplits, IsColumn, SplitFails}
 
 -- ---- which clause fails, over columns
@@ -59,6 +61,21 @@ pub record AreLongHeld (steps : ℕ) (columns : HeldColumns) : Type 0 where
   pub faster : IfSome columns.faster (λ column. steps ≤ length column.items)
   pub fresh : steps ≤ length columns.here.fresh.items
   pub held : steps ≤ length columns.here.held.items
+
+-- the clauses of a column of table F, or of table H, can be looked at for so many steps
+pub record IsFreshReached (column : Compared FreshColumns) (steps : ℕ) : Type 0 where
+  pub few : steps ≤ 8192
+  pub cheap : AreCheap column.costs
+  pub long : AreLong steps column.columns.now
+  pub enough : IfSome column.columns.now.before (λ _. steps ≤ length column.least.now)
+  pub below : IfSome column.columns.now.before (λ pair. AreBelowSplits column.costs.forward (at_step pair.fresh.items) (at_step pair.held.items) column.least.now)
+
+pub record IsHeldReached (column : Compared HeldColumns) (steps : ℕ) : Type 0 where
+  pub few : steps ≤ 8192
+  pub cheap : AreCheap column.costs
+  pub long : AreLongHeld steps column.columns.now
+  pub enough : steps ≤ length column.least.now
+  pub below : AreBelowSplits column.costs.forward (at_step column.columns.now.here.fresh.items) (at_step column.columns.now.here.held.items) column.least.now
 
 -- ---- which place is the first
 
@@ -139,3 +156,23 @@ pub record AreSplitsOf (t : TableRows) (forward k : ℕ) (splits : List (Vec ℕ
 -- such bounds for each of the first levels
 abbrev pub AreSplits : TableRows → ℕ → List (Vec (Vec ℕ Global) Global) → Type 0
 AreSplits t forward levels = (k : ℕ) (d : Vec (Vec ℕ Global) Global) → k < length levels → AreSplitsOf t forward k (slice_index_or levels k d).items
+
+-- ---- a level
+
+-- the number of table H, or of table F
+abbrev pub table_number : Bool → ℕ
+table_number true = 1
+table_number false = 0
+
+-- the places of a level's tables
+abbrev pub LevelBreaks : TableLevel → Place → Type 0
+LevelBreaks level = Breaks level.tables.now.steps level.book.now (tables_in level.tables.now)
+
+-- A level is both in the tables and in the book, and has lower bounds for its splits. Up to it the tables have the
+-- book's rooms; they may have fewer levels than the book.
+pub record IsComparable (level : TableLevel) : Type 0 where
+  pub rooms : (j : ℕ) → j ≤ level.k → slice_index level.tables.now.rooms j ≡ room level.book.now j level.tables.now.steps
+  pub few : level.tables.now.steps ≤ 8192
+  pub known : level.k < length level.book.now.levels
+  pub built : level.k < length level.tables.now.rooms
+  pub splits : AreSplitsOf level.tables.now level.book.now.forward level.k level.splits.now

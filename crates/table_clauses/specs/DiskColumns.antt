@@ -1,5 +1,5 @@
 -- No public clause cites this file. Columns of disk tables, and which clauses fail at their entries.
-use Rattle.std.specs.Prelude.{◌≡◌, ◌⊎◌, ℕ, ◌≤◌, length, slice_index}
+use Rattle.std.specs.Prelude.{◌≡◌, ◌⊎◌, ℕ, ◌≤◌, Bool, true, false, length, slice_index}
 use Rattle.level_book.specs.UnderTable.{number, sum_of}
 use Rattle.cost_tables.specs.TableRows.{tables_in}
 use Rattle.disk_gen.specs.DiskRows.{DiskRows, disk_tables_in}
@@ -8,7 +8,7 @@ use Rattle.table_clauses.specs.declared.search.LevelCosts.{LevelCosts}
 use Rattle.table_clauses.specs.declared.disk.DiskColumns.{DiskColumns}
 use Rattle.table_clauses.specs.ClauseFailures.{IsAbove}
 use Rattle.table_clauses.specs.Splits.{at_step, AreBelowSplits, IsColumn, SplitFails}
-use Rattle.table_clauses.specs.Columns.{InColumn}
+use Rattle.table_clauses.specs.Columns.{AreCheap, InColumn}
 
 -- the columns are those of the tables
 pub record AreDiskColumns (t : DiskRows) (columns : DiskColumns) : Type 0 where
@@ -29,6 +29,13 @@ pub record AreDiskSplits (forward : ℕ) (columns : DiskColumns) : Type 0 where
   pub fresh : AreBelowSplits forward (at_step columns.fresh.items) (at_step columns.held.items) columns.fresh_splits.items
   pub held : AreBelowSplits forward (at_step columns.fast.items) (at_step columns.held.items) columns.held_splits.items
 
+-- the clauses of tables Fd and Hd can be looked at for so many steps
+pub record AreDiskReached (costs : LevelCosts) (columns : DiskColumns) (steps : ℕ) : Type 0 where
+  pub few : steps ≤ 8192
+  pub cheap : AreCheap costs
+  pub long : AreLongDisk steps columns
+  pub splits : AreDiskSplits costs.forward columns
+
 -- the clause fails at the entry of table Fd, or of table Hd, for l steps
 abbrev pub DiskFreshColumnFails : LevelCosts → DiskColumns → ℕ → ℕ → Type 0
 DiskFreshColumnFails costs columns l clause =
@@ -40,6 +47,11 @@ abbrev pub DiskHeldColumnFails : LevelCosts → DiskColumns → ℕ → ℕ → 
 DiskHeldColumnFails costs columns l clause =
     ((clause ≡ 14) × IsAbove (at_step columns.held.items l) (sum_of costs.read (number 0) (at_step columns.fast.items l)))
     ⊎ ((clause ≡ 15) × SplitFails (at_step columns.held.items l) costs.read costs.forward columns.fast.items columns.held.items l)
+
+-- for table Hd, or for table Fd
+abbrev pub DiskColumnFails : Bool → LevelCosts → DiskColumns → ℕ → ℕ → Type 0
+DiskColumnFails true = DiskHeldColumnFails
+DiskColumnFails false = DiskFreshColumnFails
 
 -- what is broken in table Fd, in table Hd, and in both
 abbrev pub InDiskFreshColumn : LevelCosts → DiskColumns → ℕ → Place → Type 0

@@ -1,12 +1,29 @@
-// The entries of a column, replaced by lower bounds, in the order in which splits scan them.
+// Columns of tables, and lower bounds of their entries in the order in which splits scan them.
 ghost use Rattle.std.specs.Prelude.{◌≡◌, ℕ, ◌+◌, ◌*◌, ◌^◌, ◌<◌, ◌≤◌, IfOk, length};
-ghost use Rattle.table_clauses.specs.Splits.{IsBackward, IsAhead};
+ghost use Rattle.level_book.specs.UnderTable.{Entry};
+ghost use Rattle.table_clauses.specs.Splits.{HaveValues, IsBackward, IsAhead, IsColumn};
 
 use cost_tables::Cost;
 use std::alloc::{AllocError, Global};
 
 // The cap of an entry, so that sums don't wrap.
 const MOST: u64 = 2305843009213693952;
+
+// The entries of a table from 1 step on.
+pub(crate) fn column_of<F: Fn(u32) -> Cost>(
+    alloc: Global,
+    steps: u32,
+    cost: F,
+) -> Result<Vec<Cost>, AllocError>
+    requires { (l : ℕ) → 1 ≤ l → l ≤ steps → F.pre cost l }
+    ensures { (entries : ℕ → Entry) → HaveValues steps (F.post cost) entries → IfOk result (λ column. IsColumn steps entries column.items) }
+{
+    let mut column = Vec::with_capacity(alloc, steps as usize)?;
+    for r in 0..steps {
+        column.push(cost(r + 1))?;
+    }
+    Ok(column)
+}
 
 // A lower bound of an entry.
 fn clipped(cost: Cost) -> u64

@@ -3,15 +3,17 @@ ghost use Rattle.std.specs.Prelude.{◌^◌, ◌<◌, ◌≤◌, IfOk, MatchOpti
 ghost use Rattle.level_book.specs.Prelude.{IsDiskUnderTable};
 ghost use Rattle.disk_gen.specs.Prelude.{AreDiskSized, disk_tables_in};
 ghost use Rattle.table_clauses.specs.ClauseFailures.{DiskBreaks, IsFirst};
-ghost use Rattle.table_clauses.specs.Columns.{AreCheap, AreCosts, IsFirstClause, Finds};
+ghost use Rattle.table_clauses.specs.Columns.{AreCosts, IsFirstClause, Finds};
 ghost use Rattle.table_clauses.specs.Splits.{IsColumn};
-ghost use Rattle.table_clauses.specs.DiskColumns.{AreDiskColumns, AreDiskSplits, AreLongDisk, DiskFreshColumnFails, DiskHeldColumnFails, InDiskFreshColumn, InDiskHeldColumn, InDiskColumns};
+ghost use Rattle.table_clauses.specs.DiskColumns.{AreDiskColumns, AreDiskReached, AreDiskSplits, AreLongDisk, DiskColumnFails, DiskFreshColumnFails, DiskHeldColumnFails, InDiskColumns};
+ghost use Rattle.table_clauses.specs.ShorterColumns.{disk_shorter};
 
+use crate::column::column_of;
 use crate::compare::{is_at_most, is_within};
 use crate::entry::Entry;
-use crate::nested::{costs_of, fresh_costs, fresh_level, held_level, level_splits};
-use crate::search::LevelCosts;
-use crate::splits::{breaks_split, least_splits};
+use crate::nested::{TableLevel, costs_of, fresh_costs, fresh_level, held_level, level_splits};
+use crate::search::{Column, LevelCosts, first_in_column};
+use crate::splits::{Splits, breaks_split, least_splits};
 use cost_tables::Cost;
 use disk_gen::DiskTables;
 use level_book::Book;
@@ -43,10 +45,16 @@ pub fn first_broken_disk(
     let _levels = book.levels();
     let fast = tables.fast();
     let splits = level_splits(alloc, fast, book.forward() as u64, 0)?;
-    if let Some(entry) = fresh_level(alloc, fast, book, 0, &splits)? {
+    let level = TableLevel {
+        tables: fast,
+        book,
+        k: 0,
+        splits: &splits,
+    };
+    if let Some(entry) = fresh_level(alloc, &level)? {
         return Ok(Some(entry));
     }
-    if let Some(entry) = held_level(alloc, fast, book, 0, &splits)? {
+    if let Some(entry) = held_level(alloc, &level)? {
         return Ok(Some(entry));
     }
     let costs = disk_costs(book);
@@ -94,107 +102,74 @@ fn disk_columns(alloc: Global, tables: &DiskTables, forward: u64) -> Result<Disk
 fn disk_fresh_costs(alloc: Global, tables: &DiskTables) -> Result<Vec<Cost>, AllocError>
     ensures { IfOk result (λ column. IsColumn tables.now.fast.steps (disk_tables_in tables.now).disk_fresh column.items) }
 {
-    let mut column = Vec::with_capacity(alloc, tables.steps() as usize)?;
-    for r in 0..tables.steps() {
-        column.push(tables.disk_fresh(r + 1))?;
-    }
-    Ok(column)
+    column_of(alloc, tables.steps(), |l| tables.disk_fresh(l))
 }
 
 // The entries of table Hd, in ascending order of steps.
 fn disk_held_costs(alloc: Global, tables: &DiskTables) -> Result<Vec<Cost>, AllocError>
     ensures { IfOk result (λ column. IsColumn tables.now.fast.steps (disk_tables_in tables.now).disk_held column.items) }
 {
-    let mut column = Vec::with_capacity(alloc, tables.steps() as usize)?;
-    for r in 0..tables.steps() {
-        column.push(tables.disk_held(r + 1))?;
-    }
-    Ok(column)
+    column_of(alloc, tables.steps(), |l| tables.disk_held(l))
 }
 
 // The first place in tables Fd and Hd.
 fn first_over_both(columns: &DiskColumns, costs: LevelCosts, steps: u32) -> Option<Entry>
-    requires few { steps ≤ 8192 }
-    requires cheap { AreCheap costs }
-    requires long { AreLongDisk steps columns.now }
-    requires splits { AreDiskSplits costs.forward columns.now }
+    requires { AreDiskReached costs columns.now steps }
     ensures { Finds (InDiskColumns costs columns.now steps) result }
 {
-    if let Some(entry) = disk_fresh_column(columns, costs, steps) {
+    let fresh = DiskColumn {
+        columns,
+        costs,
+        is_held: false,
+    };
+    if let Some(entry) = first_in_column(&fresh, 2, 1, 0, steps) {
         return Some(entry);
     }
-    disk_held_column(columns, costs, steps)
+    let held = DiskColumn {
+        is_held: true,
+        ..fresh
+    };
+    first_in_column(&held, 3, 1, 0, steps)
 }
 
-// The first place in table Fd.
-fn disk_fresh_column(columns: &DiskColumns, costs: LevelCosts, steps: u32) -> Option<Entry>
-    requires few { steps ≤ 8192 }
-    requires cheap { AreCheap costs }
-    requires long { AreLongDisk steps columns.now }
-    requires splits { AreDiskSplits costs.forward columns.now }
-    ensures { Finds (InDiskFreshColumn costs columns.now steps) result }
-{
-    for r in 0..steps {
-        if let Some(clause) = disk_fresh_clause(columns, costs, r + 1) {
-            return Some(Entry {
-                table: 2,
-                level: 1,
-                free: 0,
-                steps: r + 1,
-                clause,
-            });
-        }
-    }
-    None
+// The column of table Fd, or that of table Hd.
+#[derive(Clone, Copy)]
+pub(crate) struct DiskColumn<'a> {
+    pub(crate) columns: &'a DiskColumns,
+    pub(crate) costs: LevelCosts,
+    pub(crate) is_held: bool,
 }
 
-// The first place in table Hd.
-fn disk_held_column(columns: &DiskColumns, costs: LevelCosts, steps: u32) -> Option<Entry>
-    requires few { steps ≤ 8192 }
-    requires cheap { AreCheap costs }
-    requires long { AreLongDisk steps columns.now }
-    requires splits { AreDiskSplits costs.forward columns.now }
-    ensures { Finds (InDiskHeldColumn costs columns.now steps) result }
-{
-    for r in 0..steps {
-        if let Some(clause) = disk_held_clause(columns, costs, r + 1) {
-            return Some(Entry {
-                table: 3,
-                level: 1,
-                free: 0,
-                steps: r + 1,
-                clause,
-            });
+impl<'a> Column for DiskColumn<'a> {
+    ghost fails = { λ column. DiskColumnFails column.is_held column.costs column.columns.now };
+
+    ghost reaches = { λ column. AreDiskReached column.costs column.columns.now };
+
+    ghost shorter = { λ column. disk_shorter column.costs column.columns.now };
+
+    fn first_clause(&self, l: u32) -> Option<u8> {
+        if self.is_held {
+            return disk_held_clause(self.columns, self.costs, l);
         }
+        disk_fresh_clause(self.columns, self.costs, l)
     }
-    None
 }
 
 // The first clause that fails at an entry of table Fd.
 fn disk_fresh_clause(columns: &DiskColumns, costs: LevelCosts, l: u32) -> Option<u8>
-    requires l { (1 ≤ l) × (l ≤ 8192) }
-    requires cheap { AreCheap costs }
-    requires long { AreLongDisk l columns.now }
-    requires splits { AreDiskSplits costs.forward columns.now }
+    requires l { 1 ≤ l }
+    requires reached { AreDiskReached costs columns.now l }
     ensures { IsFirstClause (DiskFreshColumnFails costs columns.now l) result }
 {
     let own = columns.fresh[l as usize - 1];
-    let fast = columns.fast[l as usize - 1];
-    let held = columns.held[l as usize - 1];
-    if !is_within(own, fast) {
+    if !is_within(own, columns.fast[l as usize - 1]) {
         return Some(11);
     }
-    if breaks_split(
-        own,
-        costs.write,
-        costs.forward,
-        &columns.fresh,
-        &columns.held,
-        columns.fresh_splits[l as usize - 1],
-        l,
-    ) {
+    let splits = Splits::new(costs.write, costs.forward, &columns.fresh, &columns.held);
+    if breaks_split(own, &splits, columns.fresh_splits[l as usize - 1], l) {
         return Some(12);
     }
+    let held = columns.held[l as usize - 1];
     if !is_at_most(own, costs.write, Cost::Number(0), held) {
         return Some(13);
     }
@@ -203,10 +178,8 @@ fn disk_fresh_clause(columns: &DiskColumns, costs: LevelCosts, l: u32) -> Option
 
 // The first clause that fails at an entry of table Hd.
 fn disk_held_clause(columns: &DiskColumns, costs: LevelCosts, l: u32) -> Option<u8>
-    requires l { (1 ≤ l) × (l ≤ 8192) }
-    requires cheap { AreCheap costs }
-    requires long { AreLongDisk l columns.now }
-    requires splits { AreDiskSplits costs.forward columns.now }
+    requires l { 1 ≤ l }
+    requires reached { AreDiskReached costs columns.now l }
     ensures { IsFirstClause (DiskHeldColumnFails costs columns.now l) result }
 {
     let own = columns.held[l as usize - 1];
@@ -214,15 +187,8 @@ fn disk_held_clause(columns: &DiskColumns, costs: LevelCosts, l: u32) -> Option<
     if !is_at_most(own, costs.read, Cost::Number(0), fast) {
         return Some(14);
     }
-    if breaks_split(
-        own,
-        costs.read,
-        costs.forward,
-        &columns.fast,
-        &columns.held,
-        columns.held_splits[l as usize - 1],
-        l,
-    ) {
+    let splits = Splits::new(costs.read, costs.forward, &columns.fast, &columns.held);
+    if breaks_split(own, &splits, columns.held_splits[l as usize - 1], l) {
         return Some(15);
     }
     None

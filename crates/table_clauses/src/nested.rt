@@ -1,13 +1,14 @@
 // Tables over the levels of a book.
 ghost use Rattle.std.specs.Prelude.{◌≡◌, ℕ, ◌-◌, ◌^◌, ◌<◌, ◌≤◌, IfOk, MatchOption, length, slice_index, slice_index_or};
-ghost use Rattle.level_book.specs.Prelude.{room, IsUnderTable};
+ghost use Rattle.level_book.specs.Prelude.{IsUnderTable};
 ghost use Rattle.cost_tables.specs.Prelude.{AreFor, tables_in};
 ghost use Rattle.table_clauses.specs.ClauseFailures.{Breaks, IsFirst};
-ghost use Rattle.table_clauses.specs.Columns.{AreCosts, AreFreshColumns, AreHeldColumns, AreSplits, AreSplitsAt, AreSplitsOf, IsFaster, IsPair, IsPairBefore, Finds, InTable, InLevel};
+ghost use Rattle.table_clauses.specs.Columns.{AreCosts, AreFreshColumns, AreHeldColumns, AreSplits, AreSplitsAt, AreSplitsOf, IsComparable, IsFaster, IsPair, IsPairBefore, Finds, InTable, InLevel, LevelBreaks, table_number};
 ghost use Rattle.table_clauses.specs.Splits.{IsColumn};
 
+use crate::column::column_of;
 use crate::entry::Entry;
-use crate::search::{FreshColumns, HeldColumns, LevelCosts, Pair, fresh_column, held_column};
+use crate::search::{Compared, FreshColumns, HeldColumns, LevelCosts, Pair, first_in_column};
 use crate::splits::least_splits;
 use cost_tables::{Cost, Tables};
 use level_book::Book;
@@ -25,10 +26,10 @@ pub fn first_broken(
         (IsFirst (Breaks tables.now.steps book.now (tables_in tables.now)))) }
 {
     let splits = all_splits(alloc, tables, book.forward() as u64)?;
-    if let Some(entry) = first_fresh(alloc, tables, book, &splits)? {
+    if let Some(entry) = first_in_table(alloc, tables, book, &splits, false)? {
         return Ok(Some(entry));
     }
-    first_held(alloc, tables, book, &splits)
+    first_in_table(alloc, tables, book, &splits, true)
 }
 
 // Lower bounds of splits, for each level, each number of free slots, and each stretch.
@@ -88,69 +89,72 @@ fn slot_splits(
     least_splits(alloc, &fresh, &held, forward)
 }
 
-// The first place in table F.
-fn first_fresh(
+// A level of tables, the book, and lower bounds for the level's splits at each number of free slots.
+#[derive(Clone, Copy)]
+pub(crate) struct TableLevel<'a> {
+    pub(crate) tables: &'a Tables,
+    pub(crate) book: &'a Book,
+    pub(crate) k: u8,
+    pub(crate) splits: &'a [Vec<u64>],
+}
+
+// The first place in table H, or in table F.
+fn first_in_table(
     alloc: Global,
     tables: &Tables,
     book: &Book,
     splits: &[Vec<Vec<u64>>],
+    is_held: bool,
 ) -> Result<Option<Entry>, AllocError>
     requires sizes { AreFor tables.now.steps book.now tables.now }
     requires few { tables.now.steps ≤ 8192 }
     requires all { length splits.now ≡ length tables.now.rooms }
     requires splits { AreSplits tables.now book.now.forward splits.now }
-    ensures { IfOk result (Finds (InTable 0 (Breaks tables.now.steps book.now (tables_in tables.now)))) }
+    ensures { IfOk result (Finds (InTable (table_number is_held) (Breaks tables.now.steps book.now (tables_in tables.now)))) }
 {
     for k in 0..book.levels() {
-        if let Some(entry) = fresh_level(alloc, tables, book, k, &splits[k as usize])? {
+        let level = TableLevel {
+            tables,
+            book,
+            k,
+            splits: &splits[k as usize],
+        };
+        if let Some(entry) = first_in_level(alloc, &level, is_held)? {
             return Ok(Some(entry));
         }
     }
     Ok(None)
 }
 
-// The first place in table H.
-fn first_held(
+// The first place of a level in table H, or in table F.
+fn first_in_level(
     alloc: Global,
-    tables: &Tables,
-    book: &Book,
-    splits: &[Vec<Vec<u64>>],
+    level: &TableLevel,
+    is_held: bool,
 ) -> Result<Option<Entry>, AllocError>
-    requires sizes { AreFor tables.now.steps book.now tables.now }
-    requires few { tables.now.steps ≤ 8192 }
-    requires all { length splits.now ≡ length tables.now.rooms }
-    requires splits { AreSplits tables.now book.now.forward splits.now }
-    ensures { IfOk result (Finds (InTable 1 (Breaks tables.now.steps book.now (tables_in tables.now)))) }
+    requires { IsComparable level.now }
+    ensures { IfOk result (Finds (InLevel (table_number is_held) level.now.k (LevelBreaks level.now))) }
 {
-    for k in 0..book.levels() {
-        if let Some(entry) = held_level(alloc, tables, book, k, &splits[k as usize])? {
-            return Ok(Some(entry));
-        }
+    if is_held {
+        return held_level(alloc, level);
     }
-    Ok(None)
+    fresh_level(alloc, level)
 }
 
-// The first place of a level in table F. The tables may have fewer levels than the book.
-pub(crate) fn fresh_level(
-    alloc: Global,
-    tables: &Tables,
-    book: &Book,
-    k: u8,
-    splits: &[Vec<u64>],
-) -> Result<Option<Entry>, AllocError>
-    requires rooms { (j : ℕ) → j ≤ k → slice_index tables.now.rooms j ≡ room book.now j tables.now.steps }
-    requires few { tables.now.steps ≤ 8192 }
-    requires known { k < length book.now.levels }
-    requires built { k < length tables.now.rooms }
-    requires splits { AreSplitsOf tables.now book.now.forward k splits.now }
-    ensures { IfOk result (Finds (InLevel 0 k (Breaks tables.now.steps book.now (tables_in tables.now)))) }
+// The first place of a level in table F.
+pub(crate) fn fresh_level(alloc: Global, level: &TableLevel) -> Result<Option<Entry>, AllocError>
+    requires { IsComparable level.now }
+    ensures { IfOk result (Finds (InLevel 0 level.now.k (LevelBreaks level.now))) }
 {
-    let costs = costs_of(book, k);
-    let room = tables.room(k);
-    for m in 0..=room {
-        let columns = fresh_columns(alloc, tables, k, m)?;
-        let least = splits_before(splits, m);
-        if let Some(entry) = fresh_column(&columns, costs, least, k, m, tables.steps()) {
+    let costs = costs_of(level.book, level.k);
+    for m in 0..=level.tables.room(level.k) {
+        let columns = fresh_columns(alloc, level.tables, level.k, m)?;
+        let column = Compared {
+            columns: &columns,
+            costs,
+            least: splits_before(level.splits, m),
+        };
+        if let Some(entry) = first_in_column(&column, 0, level.k, m, level.tables.steps()) {
             return Ok(Some(entry));
         }
     }
@@ -158,26 +162,19 @@ pub(crate) fn fresh_level(
 }
 
 // The first place of a level in table H.
-pub(crate) fn held_level(
-    alloc: Global,
-    tables: &Tables,
-    book: &Book,
-    k: u8,
-    splits: &[Vec<u64>],
-) -> Result<Option<Entry>, AllocError>
-    requires rooms { (j : ℕ) → j ≤ k → slice_index tables.now.rooms j ≡ room book.now j tables.now.steps }
-    requires few { tables.now.steps ≤ 8192 }
-    requires known { k < length book.now.levels }
-    requires built { k < length tables.now.rooms }
-    requires splits { AreSplitsOf tables.now book.now.forward k splits.now }
-    ensures { IfOk result (Finds (InLevel 1 k (Breaks tables.now.steps book.now (tables_in tables.now)))) }
+pub(crate) fn held_level(alloc: Global, level: &TableLevel) -> Result<Option<Entry>, AllocError>
+    requires { IsComparable level.now }
+    ensures { IfOk result (Finds (InLevel 1 level.now.k (LevelBreaks level.now))) }
 {
-    let costs = costs_of(book, k);
-    let room = tables.room(k);
-    for m in 0..room {
-        let columns = held_columns(alloc, tables, k, m)?;
-        let least = &splits[m as usize];
-        if let Some(entry) = held_column(&columns, costs, least, k, m, tables.steps()) {
+    let costs = costs_of(level.book, level.k);
+    for m in 0..level.tables.room(level.k) {
+        let columns = held_columns(alloc, level.tables, level.k, m)?;
+        let column = Compared {
+            columns: &columns,
+            costs,
+            least: &level.splits[m as usize],
+        };
+        if let Some(entry) = first_in_column(&column, 1, level.k, m, level.tables.steps()) {
             return Ok(Some(entry));
         }
     }
@@ -282,11 +279,7 @@ pub(crate) fn fresh_costs(
     requires m { m ≤ slice_index tables.now.rooms k }
     ensures { IfOk result (λ column. IsColumn tables.now.steps (λ l. (tables_in tables.now).fresh k l m) column.items) }
 {
-    let mut column = Vec::with_capacity(alloc, tables.steps() as usize)?;
-    for r in 0..tables.steps() {
-        column.push(tables.fresh(k, r + 1, m))?;
-    }
-    Ok(column)
+    column_of(alloc, tables.steps(), |l| tables.fresh(k, l, m))
 }
 
 // The entries of table H at one number of free slots, in ascending order of steps.
@@ -295,9 +288,5 @@ fn held_costs(alloc: Global, tables: &Tables, k: u8, m: u32) -> Result<Vec<Cost>
     requires m { m < slice_index tables.now.rooms k }
     ensures { IfOk result (λ column. IsColumn tables.now.steps (λ l. (tables_in tables.now).held k l m) column.items) }
 {
-    let mut column = Vec::with_capacity(alloc, tables.steps() as usize)?;
-    for r in 0..tables.steps() {
-        column.push(tables.held(k, r + 1, m))?;
-    }
-    Ok(column)
+    column_of(alloc, tables.steps(), |l| tables.held(k, l, m))
 }

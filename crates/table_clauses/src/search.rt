@@ -1,14 +1,15 @@
 // The clauses of one entry, and of the entries of one column.
-ghost use Rattle.std.specs.Prelude.{◌≡◌, ◌↔◌, ◌+◌, ◌<◌, ◌≤◌, true, IfSome, length};
+ghost use Rattle.std.specs.Prelude.{◌≡◌, ◌↔◌, ℕ, ◌+◌, ◌≤◌, true, IfSome, length};
 ghost use Rattle.level_book.specs.Prelude.{number};
 ghost use Rattle.cost_tables.specs.Prelude.{value_of};
 ghost use Rattle.table_clauses.specs.ClauseFailures.{IsAbove};
 ghost use Rattle.table_clauses.specs.Splits.{at_step, AreBelowSplits};
-ghost use Rattle.table_clauses.specs.Columns.{AreCheap, AreLong, AreLongHeld, FasterFails, MovedFails, BeforeSplitFails, StoredFails, FreshColumnFails, HeldColumnFails, IsFirstClause, Finds, InFreshColumn, InHeldColumn};
+ghost use Rattle.table_clauses.specs.Columns.{AreCheap, FasterFails, MovedFails, BeforeSplitFails, StoredFails, FreshColumnFails, HeldColumnFails, IsFreshReached, IsHeldReached, IsFirstClause, Finds, InColumn};
+ghost use Rattle.table_clauses.specs.ShorterColumns.{fresh_shorter, held_shorter};
 
 use crate::compare::{is_at_most, is_within};
 use crate::entry::Entry;
-use crate::splits::breaks_split;
+use crate::splits::{Splits, breaks_split};
 use cost_tables::Cost;
 
 // What steps cost, and an image on a level.
@@ -88,15 +89,10 @@ fn breaks_before(own: Cost, costs: LevelCosts, before: &Option<Pair>, least: &[u
     ensures { result ≡ true ↔ BeforeSplitFails (value_of own) costs before.now l }
 {
     match before {
-        Some(pair) => breaks_split(
-            own,
-            costs.write,
-            costs.forward,
-            &pair.fresh,
-            &pair.held,
-            least[l as usize - 1],
-            l,
-        ),
+        Some(pair) => {
+            let splits = Splits::new(costs.write, costs.forward, &pair.fresh, &pair.held);
+            breaks_split(own, &splits, least[l as usize - 1], l)
+        }
         None => false,
     }
 }
@@ -116,112 +112,101 @@ fn breaks_stored(own: Cost, write: u64, before: &Option<Pair>, l: u32) -> bool
     }
 }
 
-// The first clause that fails at an entry of table F.
-fn fresh_clause(columns: &FreshColumns, costs: LevelCosts, least: &[u64], l: u32) -> Option<u8>
-    requires l { (1 ≤ l) × (l ≤ 8192) }
-    requires cheap { AreCheap costs }
-    requires long { AreLong l columns.now }
-    requires enough { IfSome columns.now.before (λ _. l ≤ length least.now) }
-    requires below { IfSome columns.now.before (λ pair. AreBelowSplits costs.forward (at_step pair.fresh.items) (at_step pair.held.items) least.now) }
-    ensures { IsFirstClause (FreshColumnFails costs columns.now l) result }
-{
-    let own = columns.own[l as usize - 1];
-    if breaks_one(own, l, costs.forward + costs.reverse) {
-        return Some(1);
-    }
-    if breaks_faster(own, &columns.faster, l) {
-        return Some(2);
-    }
-    if breaks_before(own, costs, &columns.before, least, l) {
-        return Some(3);
-    }
-    if breaks_stored(own, costs.write, &columns.before, l) {
-        return Some(4);
-    }
-    None
+// A column of a table, with what its clauses compare the entries with.
+pub(crate) trait Column {
+    // The clause fails at the entry for so many steps.
+    ghost fails: { Self → ℕ → ℕ → Type 0 };
+
+    // The clauses can be looked at for up to so many steps.
+    ghost reaches: { Self → ℕ → Type 0 };
+
+    // The first clause that fails at the entry for l steps.
+    fn first_clause(&self, l: u32) -> Option<u8>
+        requires l { 1 ≤ l }
+        requires reaches { reaches self.now l }
+        ensures { IsFirstClause (fails self.now l) result };
+
+    // They can then be looked at for fewer steps.
+    ghost shorter: { (column : Self) (l steps : ℕ) → l ≤ steps → reaches column steps → reaches column l };
 }
 
-// The first clause that fails at an entry of table H.
-fn held_clause(columns: &HeldColumns, costs: LevelCosts, least: &[u64], l: u32) -> Option<u8>
-    requires l { (1 ≤ l) × (l ≤ 8192) }
-    requires cheap { AreCheap costs }
-    requires long { AreLongHeld l columns.now }
-    requires enough { l ≤ length least.now }
-    requires below { AreBelowSplits costs.forward (at_step columns.now.here.fresh.items) (at_step columns.now.here.held.items) least.now }
-    ensures { IsFirstClause (HeldColumnFails costs columns.now l) result }
-{
-    let here = &columns.here;
-    let own = here.held[l as usize - 1];
-    if breaks_one(own, l, costs.read + costs.forward + costs.reverse) {
-        return Some(5);
-    }
-    if breaks_moved(own, costs.read, &columns.faster, l) {
-        return Some(6);
-    }
-    if breaks_split(
-        own,
-        costs.read,
-        costs.forward,
-        &here.fresh,
-        &here.held,
-        least[l as usize - 1],
-        l,
-    ) {
-        return Some(7);
-    }
-    None
+// Columns, what their level costs, and lower bounds of splits. For table F they are the splits with a free slot less.
+#[derive(Clone, Copy)]
+pub(crate) struct Compared<'a, T> {
+    pub(crate) columns: &'a T,
+    pub(crate) costs: LevelCosts,
+    pub(crate) least: &'a [u64],
 }
 
-// The first place in a column of table F.
-pub(crate) fn fresh_column(
-    columns: &FreshColumns,
-    costs: LevelCosts,
-    least: &[u64],
-    level: u8,
-    free: u32,
-    steps: u32,
-) -> Option<Entry>
-    requires few { steps ≤ 8192 }
-    requires cheap { AreCheap costs }
-    requires long { AreLong steps columns.now }
-    requires enough { IfSome columns.now.before (λ _. steps ≤ length least.now) }
-    requires below { IfSome columns.now.before (λ pair. AreBelowSplits costs.forward (at_step pair.fresh.items) (at_step pair.held.items) least.now) }
-    ensures { Finds (InFreshColumn costs columns.now level free steps) result }
-{
-    for r in 0..steps {
-        if let Some(clause) = fresh_clause(columns, costs, least, r + 1) {
-            return Some(Entry {
-                table: 0,
-                level,
-                free,
-                steps: r + 1,
-                clause,
-            });
+// The column of table F.
+impl<'a> Column for Compared<'a, FreshColumns> {
+    ghost fails = { λ column. FreshColumnFails column.costs column.columns.now };
+
+    ghost reaches = { IsFreshReached };
+
+    ghost shorter = { fresh_shorter };
+
+    fn first_clause(&self, l: u32) -> Option<u8> {
+        let columns = self.columns;
+        let costs = self.costs;
+        let own = columns.own[l as usize - 1];
+        if breaks_one(own, l, costs.forward + costs.reverse) {
+            return Some(1);
         }
+        if breaks_faster(own, &columns.faster, l) {
+            return Some(2);
+        }
+        if breaks_before(own, costs, &columns.before, self.least, l) {
+            return Some(3);
+        }
+        if breaks_stored(own, costs.write, &columns.before, l) {
+            return Some(4);
+        }
+        None
     }
-    None
 }
 
-// The first place in a column of table H.
-pub(crate) fn held_column(
-    columns: &HeldColumns,
-    costs: LevelCosts,
-    least: &[u64],
+// The column of table H.
+impl<'a> Column for Compared<'a, HeldColumns> {
+    ghost fails = { λ column. HeldColumnFails column.costs column.columns.now };
+
+    ghost reaches = { IsHeldReached };
+
+    ghost shorter = { held_shorter };
+
+    fn first_clause(&self, l: u32) -> Option<u8> {
+        let here = &self.columns.here;
+        let costs = self.costs;
+        let own = here.held[l as usize - 1];
+        if breaks_one(own, l, costs.read + costs.forward + costs.reverse) {
+            return Some(5);
+        }
+        if breaks_moved(own, costs.read, &self.columns.faster, l) {
+            return Some(6);
+        }
+        let splits = Splits::new(costs.read, costs.forward, &here.fresh, &here.held);
+        if breaks_split(own, &splits, self.least[l as usize - 1], l) {
+            return Some(7);
+        }
+        None
+    }
+}
+
+// The first place in a column of this table, level and number of free slots.
+pub(crate) fn first_in_column<C: Column>(
+    column: &C,
+    table: u8,
     level: u8,
     free: u32,
     steps: u32,
 ) -> Option<Entry>
-    requires few { steps ≤ 8192 }
-    requires cheap { AreCheap costs }
-    requires long { AreLongHeld steps columns.now }
-    requires enough { steps ≤ length least.now }
-    requires below { AreBelowSplits costs.forward (at_step columns.now.here.fresh.items) (at_step columns.now.here.held.items) least.now }
-    ensures { Finds (InHeldColumn costs columns.now level free steps) result }
+    requires { C.reaches column.now steps }
+    ensures { Finds (InColumn table level free steps (C.fails column.now)) result }
 {
     for r in 0..steps {
-        if let Some(clause) = held_clause(columns, costs, least, r + 1) {
+        if let Some(clause) = column.first_clause(r + 1) {
             return Some(Entry {
-                table: 1,
+                table,
                 level,
                 free,
                 steps: r + 1,

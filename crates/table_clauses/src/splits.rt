@@ -1,7 +1,7 @@
 // What the splits of a stretch cost.
 ghost use Rattle.std.specs.Prelude.{◌≡◌, ◌↔◌, ℕ, ◌+◌, ◌-◌, ◌*◌, ◌^◌, ◌<◌, ◌≤◌, true, All, IfOk, length, slice_index};
 ghost use Rattle.cost_tables.specs.Prelude.{value_of};
-ghost use Rattle.table_clauses.specs.Splits.{at_step, AreBelowSplits, IsBelowSplits, SplitFails};
+ghost use Rattle.table_clauses.specs.Splits.{at_step, AreAddable, AreBelowSplits, IsBelowSplits, SplitFails};
 
 use crate::column::{ahead, backward};
 use crate::compare::{is_at_most, is_within};
@@ -63,25 +63,40 @@ pub(crate) fn least_splits(
     Ok(least)
 }
 
-// Whether an entry for l steps is above the cost of some split, decided split by split.
-fn breaks_some_split(
-    own: Cost,
+// The entries that splits add, and what the first image and each step cost.
+#[derive(Drop)]
+pub(crate) struct Splits<'a> {
     first: u64,
     forward: u64,
-    fresh: &[Cost],
-    held: &[Cost],
-    l: u32,
-) -> bool
-    requires first { first < 2 ^ 32 }
-    requires forward { forward < 2 ^ 32 }
-    requires few { l ≤ 8192 }
-    requires long { (l ≤ length fresh.now) × (l ≤ length held.now) }
-    ensures { result ≡ true ↔ SplitFails (value_of own) first forward fresh.now held.now l }
+    fresh: &'a [Cost],
+    held: &'a [Cost],
+}
+
+impl<'a> Splits<'a> {
+    pub(crate) fn new(first: u64, forward: u64, fresh: &'a [Cost], held: &'a [Cost]) -> Splits<'a>
+        ensures first { result.first ≡ first }
+        ensures forward { result.forward ≡ forward }
+        ensures fresh { result.fresh.now ≡ fresh.now }
+        ensures held { result.held.now ≡ held.now }
+    {
+        Splits {
+            first,
+            forward,
+            fresh,
+            held,
+        }
+    }
+}
+
+// Whether an entry for l steps is above the cost of some split, decided split by split.
+fn breaks_some_split(own: Cost, splits: &Splits, l: u32) -> bool
+    requires { AreAddable l splits.now }
+    ensures { result ≡ true ↔ SplitFails (value_of own) splits.now.first splits.now.forward splits.now.fresh.now splits.now.held.now l }
 {
     for j in 1..l {
-        let there = held[j as usize - 1];
-        let rest = fresh[(l - j) as usize - 1];
-        if !is_at_most(own, first + j as u64 * forward, rest, there) {
+        let there = splits.held[j as usize - 1];
+        let rest = splits.fresh[(l - j) as usize - 1];
+        if !is_at_most(own, splits.first + j as u64 * splits.forward, rest, there) {
             return true;
         }
     }
@@ -89,25 +104,14 @@ fn breaks_some_split(
 }
 
 // Whether a split costs less than an entry; a lower bound decides it for most entries at once.
-pub(crate) fn breaks_split(
-    own: Cost,
-    first: u64,
-    forward: u64,
-    fresh: &[Cost],
-    held: &[Cost],
-    least: u64,
-    l: u32,
-) -> bool
-    requires first { first < 2 ^ 32 }
-    requires forward { forward < 2 ^ 32 }
-    requires few { l ≤ 8192 }
-    requires long { (l ≤ length fresh.now) × (l ≤ length held.now) }
+pub(crate) fn breaks_split(own: Cost, splits: &Splits, least: u64, l: u32) -> bool
+    requires addable { AreAddable l splits.now }
     requires small { least ≤ 2 ^ 63 }
-    requires below { IsBelowSplits forward (at_step fresh.now) (at_step held.now) l least }
-    ensures { result ≡ true ↔ SplitFails (value_of own) first forward fresh.now held.now l }
+    requires below { IsBelowSplits splits.now.forward (at_step splits.now.fresh.now) (at_step splits.now.held.now) l least }
+    ensures { result ≡ true ↔ SplitFails (value_of own) splits.now.first splits.now.forward splits.now.fresh.now splits.now.held.now l }
 {
-    if is_within(own, Cost::Number(first + least)) {
+    if is_within(own, Cost::Number(splits.first + least)) {
         return false;
     }
-    breaks_some_split(own, first, forward, fresh, held, l)
+    breaks_some_split(own, splits, l)
 }

@@ -21,15 +21,15 @@ mod speed;
 mod sum;
 mod walk;
 
-use case_files::{Cases, Difference, Inputs, exit_code, run_files};
+use case_files::{Cases, Difference, Inputs, arguments, exit_code, run_files};
 use rv_machine::Steps;
 use serde_json::Value;
 use speed::measure;
 use std::alloc::{AllocError, Global};
+use std::io;
 use std::marker::Brand;
 use std::process::ExitCode;
 use std::sync::ledger::{Blank, Ledger};
-use std::{env, io};
 use walk::{Walk, walk_of};
 
 fn main(rt: HostRuntime) -> ExitCode {
@@ -38,11 +38,9 @@ fn main(rt: HostRuntime) -> ExitCode {
 
 // Does what the arguments ask for.
 fn run(rt: &HostRuntime) -> io::Result<bool> {
-    let words = env::args(rt)?.skip(1).collect::<Vec<String>>(rt.alloc())?;
+    let words = arguments(rt)?;
     match words.as_slice() {
-        [flag, how, file, count, marks] if flag.as_str() == "--speed" => measure(
-            rt, how, file, count, marks,
-        ),
+        [flag, order @ ..] if flag.as_str() == "--speed" => measure(rt, order),
         files => run_files(rt, &Walks, files),
     }
 }

@@ -23,21 +23,20 @@ const FAR: Range = Range {
 /// Takes so many steps of a program that runs at least as long. If `how` is `break` or `watch`, that is a move forward
 /// with so many marks, and then one backward. Their breakpoint or watched range is never hit. It prints how many
 /// microseconds of processor time each took. It also prints the peak memory, after the timeline began and at the end.
-pub fn measure(
-    rt: &HostRuntime,
-    how: &str,
-    file: &str,
-    count: &str,
-    marks: &str,
-) -> io::Result<bool> {
-    let bytes = fs::read(rt, file)?;
-    let Ok(start) = program_of(rt.alloc(), file, bytes.as_slice()) else {
+/// The words are `HOW FILE COUNT MARKS`, or it does nothing and returns false.
+pub fn measure(rt: &HostRuntime, words: &[String]) -> io::Result<bool> {
+    let [how, file, count, marks] = words else {
         return Ok(false);
     };
-    let (Ok(count), Ok(marks)) = (count.parse::<u32>(), marks.parse::<u32>()) else {
+    let bytes = fs::read(rt, file.as_str())?;
+    let Ok(start) = program_of(rt.alloc(), file.as_str(), bytes.as_slice()) else {
         return Ok(false);
     };
-    match stops_of(rt.alloc(), how)? {
+    let (Ok(count), Ok(marks)) = (count.as_str().parse::<u32>(), marks.as_str().parse::<u32>())
+    else {
+        return Ok(false);
+    };
+    match stops_of(rt.alloc(), how.as_str())? {
         None => measure_plain::<Brand>(rt, start, count, Blank::new(1))?,
         Some(stops) => measure_moves::<Brand>(rt, start, count, marks, &stops, Blank::new(1))?,
     }

@@ -94,7 +94,11 @@ impl Walk {
         let timeline = &mut self.timeline;
         let stops = &self.stops;
         match order {
-            Move::To(place) => go_to(alloc, timeline, place, steps),
+            Move::To(place) if place > timeline.most() => String::from_str(alloc, " no place"),
+            Move::To(place) => {
+                timeline.go_to(place, steps);
+                Ok(String::new(alloc))
+            }
             Move::StepOn(count) => step_text(alloc, steps_on(timeline, stops, count, steps)),
             Move::StepBack(count) => step_text(alloc, steps_back(timeline, stops, count, steps)),
             Move::RunOn => hit_text(alloc, timeline.run_on(stops, steps)),
@@ -123,19 +127,6 @@ fn told(alloc: Global, what: &str, wanted: &str, came: &str) -> Result<Option<St
         return Ok(None);
     }
     Ok(Some(format!(in alloc; "{what}: wanted {wanted}, came {came}")?))
-}
-
-fn go_to<L: Ledger>(
-    alloc: Global,
-    timeline: &mut Timeline,
-    place: u32,
-    steps: &mut Steps<L>,
-) -> Result<String, AllocError> {
-    if place > timeline.most() {
-        return String::from_str(alloc, " no place");
-    }
-    timeline.go_to(place, steps);
-    Ok(String::new(alloc))
 }
 
 fn output_from<L: Ledger>(

@@ -8,7 +8,7 @@ ghost use Rattle.unit_digests.specs.declared.digesters.TheConstants.{STATE_BYTES
 ghost use Rattle.unit_digests.specs.Digests.{states_of, AreDigests, IsKnown, HasPages};
 
 use crate::sharing::{Deal, Digester, least_unknown, make_room, put_digests, take_digests};
-use plan_types::{Gate, NoGate};
+use plan_types::Gate;
 use rv_machine::State;
 use state_image::max_image;
 use std::alloc::{AllocError, Global};
@@ -63,28 +63,9 @@ impl Digesters {
     }
 
     /// Takes the digests of the states that an undo list leads back over, as far as there is room. It starts from the
-    /// state after them. The caller takes the part of a thread that can't be made.
-    pub fn digest<R: Threads + Sync>(
-        &mut self,
-        rt: &R,
-        after: &State,
-        undo: &Undo,
-        known: &mut Vec<Option<[u8; 32]>>,
-    )
-        requires back { LeadsBack undo.now.entries after.now (led_back undo.now.entries after.now) }
-        requires pages { AllByRecursion (HasPages after.now) self.old }
-        requires known { AreDigests known.old.items (states_of undo.now.entries after.now) }
-        ensures known { AreDigests known.new.items (states_of undo.now.entries after.now) }
-        ensures still { (n : ℕ) → IsKnown known.old.items n → IsKnown known.new.items n }
-        ensures all { 1 ≤ length self.old → (n : ℕ) → n < length undo.now.entries → n < vec_capacity known.old → IsKnown known.new.items n }
-        ensures pages { self.new ≡ self.old }
-        ensures reserved { vec_capacity known.old ≤ vec_capacity known.new }
-    {
-        self.digest_with(rt, &NoGate, after, undo, known);
-    }
-
-    /// Takes digests as `digest` does; each worker passes a gate before each digest, with the digest's number from 0.
-    pub fn digest_with<R: Threads + Sync, G: Gate + Sync>(
+    /// state after them. Each worker passes the gate before each digest, with the digest's number from 0. The caller
+    /// takes the part of a thread that can't be made.
+    pub fn digest<R: Threads + Sync, G: Gate + Sync>(
         &mut self,
         rt: &R,
         gate: &G,

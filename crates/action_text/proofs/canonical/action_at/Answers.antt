@@ -9,9 +9,3 @@ returns-in-Some c = IfSome_then c.forward_at.result c.forward_at.ensures (λ x p
 
 pub returns-in-Some-behind_eight : goal.returns-in-Some-behind_eight
 returns-in-Some-behind_eight c = IfSome_then c.reverse_at.result c.reverse_at.ensures (λ x p. subst (λ (bs : List ℕ). IsActionAt (names_of c.args.book.now) bs x.0 x.1.now) (sym c.in-Some-behind_eight.ensures) (p (names_of c.args.book.now)))
-
-pub returns-in-Some-behind_four : goal.returns-in-Some-behind_four
-returns-in-Some-behind_four c = IfSome_then c.copy_at.result c.copy_at.ensures (λ x p. subst (λ (bs : List ℕ). IsActionAt (names_of c.args.book.now) bs x.0 x.1.now) (sym c.in-Some-behind_four.ensures) p)
-
-pub returns-in-Some-behind_four-2 : goal.returns-in-Some-behind_four-2
-returns-in-Some-behind_four-2 c = IfSome_then c.move_at.result c.move_at.ensures (λ x p. subst (λ (bs : List ℕ). IsActionAt (names_of c.args.book.now) bs x.0 x.1.now) (sym c.in-Some-behind_four-2.ensures) p)

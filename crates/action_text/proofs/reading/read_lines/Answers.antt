@@ -32,9 +32,9 @@ returns-then-not-next_line c =
     let names = names_of c.args.book.now in
     let len : c.len-full.result ≡ length c.lines.list.items = omega (arith, c.len-full.ensures, c.lines.list.ok.0) in
     sym c.lines.invariant.read
-    ∙ here_ok names c.lines.list.items c.add.new.list.items c.lines.number c.lines.cursor (eqb c.len-full.result 16777216) c.in-Ok.found
-    (ap (λ (k : ℕ). eqb k 16777216) len) c.in-Ok.ensures.value c.in_ok-add.ensures.added
-    ∙ lines_end names c.add.new.list.items (c.lines.number + 1) c.lines.cursor.later (ap has_line (sym c.in-Ok.ensures.later) ∙ sym c.next_line.ensures.more ∙ c.if-not-next_line.true)
+    ∙ here_ok names c.lines.list.items c.push_found.new.list.items c.lines.number c.lines.cursor (eqb c.len-full.result 16777216) c.in-Ok.found
+    (ap (λ (k : ℕ). eqb k 16777216) len) c.in-Ok.ensures.value c.in_ok-push_found.ensures.added
+    ∙ lines_end names c.push_found.new.list.items (c.lines.number + 1) c.lines.cursor.later (ap has_line (sym c.in-Ok.ensures.later) ∙ sym c.next_line.ensures.more ∙ c.if-not-next_line.true)
 
 -- there is a line more
 more_lines : (c : goal.Else-not-next_line) → has_line c.lines.cursor.later ≡ true
@@ -52,10 +52,10 @@ lines-preserved c =
     let next : c.next_line.new.self ≡ next_line c.lines.cursor.later = c.if-not-next_line.ensures.goes refl ∙ ap next_line c.in-Ok.ensures.later in
     let one_less = one_line_less c.lines.cursor.later (more_lines c) in
     record {
-      read = ap (here_of names c.add.new.list.items (c.lines.number + 1)) next
-          ∙ lines_next names c.add.new.list.items (c.lines.number + 1) c.lines.cursor.later (more_lines c)
-          ∙ sym (here_ok names c.lines.list.items c.add.new.list.items c.lines.number c.lines.cursor (eqb c.len-full.result 16777216) c.in-Ok.found
-          (ap (λ (k : ℕ). eqb k 16777216) len) c.in-Ok.ensures.value c.in_ok-add.ensures.added)
+      read = ap (here_of names c.push_found.new.list.items (c.lines.number + 1)) next
+          ∙ lines_next names c.push_found.new.list.items (c.lines.number + 1) c.lines.cursor.later (more_lines c)
+          ∙ sym (here_ok names c.lines.list.items c.push_found.new.list.items c.lines.number c.lines.cursor (eqb c.len-full.result 16777216) c.in-Ok.found
+          (ap (λ (k : ℕ). eqb k 16777216) len) c.in-Ok.ensures.value c.in_ok-push_found.ensures.added)
           ∙ c.lines.invariant.read;
       lines = omega (arith, one_less, c.lines.invariant.lines, ap (λ (r : Rest). length r.later) next);
     }

@@ -9,11 +9,11 @@ use Rattle.cert_text.proofs.nested.read_nested.Goals as goal
 
 pub returns-in_err-read_levels : goal.returns-in_err-read_levels
 returns-in_err-read_levels c =
-    let p = err_from_is_err_and c.from_residual.result c.from_residual.ensures.1 in
-    rw (p.1, p.2) (inr (fault_in_levels c.args.steps c.args.book.now c.in-Ok.tables ((this_word (codes "end") ∷ []) ∷ []) c.args.reader.now c.in_err-read_levels.field-0.0 c.in-Ok.ensures.sizes c.in_err-read_levels.ensures))
+    let p = err_from_is_err_and c.from_residual-in_err-read_levels.result c.from_residual-in_err-read_levels.ensures.1 in
+    rw (p.1, p.2) (inr (fault_in_levels c.args.setting.now.steps c.args.setting.now.book.now c.in_ok-tables.tables ((this_word (codes "end") ∷ []) ∷ []) c.args.reader.now c.in_err-read_levels.field-0.0 c.in_ok-tables.ensures.sizes c.in_err-read_levels.ensures))
 
 pub returns-in_err-read_end : goal.returns-in_err-read_end
 returns-in_err-read_end c =
     let p = err_from_is_err_and c.from_residual-in_err-read_end.result c.from_residual-in_err-read_end.ensures.1 in
-    rw (p.1, p.2) (inr (fault_at_end c.args.steps c.args.book.now c.in-Ok.tables ((this_word (codes "end") ∷ []) ∷ []) (flat_map (level_lines c.read_levels.new.tables) (range_with_len 0 (length c.in-Ok.tables.rooms))) c.args.reader.now c.read_levels.new.reader
-    c.in_err-read_end.field-0.0 c.in-Ok.ensures.sizes c.in_ok-read_levels.ensures.0 c.in_err-read_end.ensures))
+    rw (p.1, p.2) (inr (fault_at_end c.args.setting.now.steps c.args.setting.now.book.now c.in_ok-tables.tables ((this_word (codes "end") ∷ []) ∷ []) (flat_map (level_lines c.read_levels.new.tables) (range_with_len 0 (length c.in_ok-tables.tables.rooms))) c.args.reader.now c.read_levels.new.reader
+    c.in_err-read_end.field-0.0 c.in_ok-tables.ensures.sizes c.in_ok-read_levels.ensures.0 c.in_err-read_end.ensures))

@@ -9,7 +9,7 @@ use Rattle.cert_text.proofs.printing.print_places.Goals as goal
 
 pub returns-in_err-word-clause-stopped : goal.returns-in_err-word-clause-stopped
 returns-in_err-word-clause-stopped g c =
-    let look = seen g.O.Sink.told g.O.Sink.call_count g.O.Sink.fault_count in
+    let look = seen g.O.Sink in
     let p = c.new-piece.result in let n = c.args.threshold in
     let a = look c.args.out.now in let b = look c.word.new.out in
     err_always c.from_residual.result (StopsIn (pieces (Places n)) a b)
@@ -18,7 +18,7 @@ returns-in_err-word-clause-stopped g c =
 
 pub returns-in_err-number-clause-stopped : goal.returns-in_err-number-clause-stopped
 returns-in_err-number-clause-stopped g c =
-    let look = seen g.O.Sink.told g.O.Sink.call_count g.O.Sink.fault_count in
+    let look = seen g.O.Sink in
     let p = c.new-piece.result in let q = c.word.new.self in let n = c.args.threshold in
     let a = look c.args.out.now in let b = look c.word.new.out in let d = look c.number.new.out in
     err_always c.from_residual-in_err-number.result (StopsIn (pieces (Places n)) a d)
@@ -28,7 +28,7 @@ returns-in_err-number-clause-stopped g c =
 
 pub returns-clause-ok : goal.returns-clause-ok
 returns-clause-ok g c =
-    let look = seen g.O.Sink.told g.O.Sink.call_count g.O.Sink.fault_count in
+    let look = seen g.O.Sink in
     let p = c.new-piece.result in let q = c.word.new.self in let r = c.number.new.self in let n = c.args.threshold in
     let a = look c.args.out.now in let b = look c.word.new.out in let d = look c.number.new.out in
     one_line_ended c.end.result (codes "places" ∷ decimal n ∷ []) p.room r.room p.text r.text a d (look c.end.new.out) c.new-piece.ensures.room c.new-piece.ensures.text
@@ -36,7 +36,7 @@ returns-clause-ok g c =
 
 pub returns-clause-stopped : goal.returns-clause-stopped
 returns-clause-stopped g c =
-    let look = seen g.O.Sink.told g.O.Sink.call_count g.O.Sink.fault_count in
+    let look = seen g.O.Sink in
     let p = c.new-piece.result in let q = c.word.new.self in let r = c.number.new.self in let n = c.args.threshold in
     let a = look c.args.out.now in let b = look c.word.new.out in let d = look c.number.new.out in
     one_line_stopped c.end.result (codes "places" ∷ decimal n ∷ []) p.room r.room p.text r.text a d (look c.end.new.out) c.new-piece.ensures.room c.new-piece.ensures.text

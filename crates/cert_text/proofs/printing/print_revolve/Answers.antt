@@ -9,7 +9,7 @@ use Rattle.cert_text.proofs.printing.print_revolve.Goals as goal
 
 pub returns-in_err-word-clause-stopped : goal.returns-in_err-word-clause-stopped
 returns-in_err-word-clause-stopped g c =
-    let look = seen g.O.Sink.told g.O.Sink.call_count g.O.Sink.fault_count in
+    let look = seen g.O.Sink in
     let p = c.new-piece.result in let k = c.args.k in let v = c.args.value in
     let a = look c.args.out.now in let b = look c.word.new.out in
     err_always c.from_residual.result (StopsIn (pieces (Revolve k v)) a b)
@@ -18,7 +18,7 @@ returns-in_err-word-clause-stopped g c =
 
 pub returns-in_err-number-clause-stopped : goal.returns-in_err-number-clause-stopped
 returns-in_err-number-clause-stopped g c =
-    let look = seen g.O.Sink.told g.O.Sink.call_count g.O.Sink.fault_count in
+    let look = seen g.O.Sink in
     let p = c.new-piece.result in let q = c.word.new.self in let k = c.args.k in let v = c.args.value in
     let a = look c.args.out.now in let b = look c.word.new.out in let d = look c.number.new.out in
     err_always c.from_residual-in_err-number.result (StopsIn (pieces (Revolve k v)) a d)
@@ -28,7 +28,7 @@ returns-in_err-number-clause-stopped g c =
 
 pub returns-in_err-number-2-clause-stopped : goal.returns-in_err-number-2-clause-stopped
 returns-in_err-number-2-clause-stopped g c =
-    let look = seen g.O.Sink.told g.O.Sink.call_count g.O.Sink.fault_count in
+    let look = seen g.O.Sink in
     let p = c.new-piece.result in let q = c.word.new.self in let r = c.number.new.self in let k = c.args.k in let v = c.args.value in
     let a = look c.args.out.now in let b = look c.word.new.out in let d = look c.number.new.out in let e = look c.number-2.new.out in
     err_always c.from_residual-in_err-number-2.result (StopsIn (pieces (Revolve k v)) a e)
@@ -39,7 +39,7 @@ returns-in_err-number-2-clause-stopped g c =
 
 pub returns-clause-ok : goal.returns-clause-ok
 returns-clause-ok g c =
-    let look = seen g.O.Sink.told g.O.Sink.call_count g.O.Sink.fault_count in
+    let look = seen g.O.Sink in
     let p = c.new-piece.result in let q = c.word.new.self in let r = c.number.new.self in let s = c.number-2.new.self in let k = c.args.k in let v = c.args.value in
     let a = look c.args.out.now in let b = look c.word.new.out in let d = look c.number.new.out in let e = look c.number-2.new.out in
     one_line_ended c.end.result (codes "revolve" ∷ decimal k ∷ decimal v ∷ []) p.room s.room p.text s.text a e (look c.end.new.out) c.new-piece.ensures.room c.new-piece.ensures.text
@@ -48,7 +48,7 @@ returns-clause-ok g c =
 
 pub returns-clause-stopped : goal.returns-clause-stopped
 returns-clause-stopped g c =
-    let look = seen g.O.Sink.told g.O.Sink.call_count g.O.Sink.fault_count in
+    let look = seen g.O.Sink in
     let p = c.new-piece.result in let q = c.word.new.self in let r = c.number.new.self in let s = c.number-2.new.self in let k = c.args.k in let v = c.args.value in
     let a = look c.args.out.now in let b = look c.word.new.out in let d = look c.number.new.out in let e = look c.number-2.new.out in
     one_line_stopped c.end.result (codes "revolve" ∷ decimal k ∷ decimal v ∷ []) p.room s.room p.text s.text a e (look c.end.new.out) c.new-piece.ensures.room c.new-piece.ensures.text

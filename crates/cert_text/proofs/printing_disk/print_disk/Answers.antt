@@ -12,7 +12,7 @@ use Rattle.cert_text.proofs.printing_disk.print_disk.Goals as goal
 
 pub returns-in_err-print_word-clause-stopped : goal.returns-in_err-print_word-clause-stopped
 returns-in_err-print_word-clause-stopped g c =
-    let look = seen g.O.Sink.told g.O.Sink.call_count g.O.Sink.fault_count in
+    let look = seen g.O.Sink in
     let t = c.args.tables.now in
     let first : List (List (List ℕ)) = (codes "disk" ∷ []) ∷ [] in
     let levels = flat_map (level_lines t.fast) (range_with_len 0 (length t.fast.rooms)) in
@@ -27,7 +27,7 @@ returns-in_err-print_word-clause-stopped g c =
 
 pub returns-in_err-print_levels-clause-stopped : goal.returns-in_err-print_levels-clause-stopped
 returns-in_err-print_levels-clause-stopped g c =
-    let look = seen g.O.Sink.told g.O.Sink.call_count g.O.Sink.fault_count in
+    let look = seen g.O.Sink in
     let t = c.args.tables.now in
     let first : List (List (List ℕ)) = (codes "disk" ∷ []) ∷ [] in
     let levels = flat_map (level_lines t.fast) (range_with_len 0 (length t.fast.rooms)) in
@@ -40,9 +40,9 @@ returns-in_err-print_levels-clause-stopped g c =
     err_always c.from_residual-in_err-print_levels.result (StopsIn (pieces (Disk t)) a d)
     (writes_stopped first levels (fresh ++ (held ++ last)) whole a b d refl c.in_ok-print_word.ensures.ok (rw c.fast.ensures.value at c.in_err-print_levels.ensures.stopped))
 
-pub returns-in_err-print_disk_fresh-clause-stopped : goal.returns-in_err-print_disk_fresh-clause-stopped
-returns-in_err-print_disk_fresh-clause-stopped g c =
-    let look = seen g.O.Sink.told g.O.Sink.call_count g.O.Sink.fault_count in
+pub returns-in_err-print_column-clause-stopped : goal.returns-in_err-print_column-clause-stopped
+returns-in_err-print_column-clause-stopped g c =
+    let look = seen g.O.Sink in
     let t = c.args.tables.now in
     let first : List (List (List ℕ)) = (codes "disk" ∷ []) ∷ [] in
     let levels = flat_map (level_lines t.fast) (range_with_len 0 (length t.fast.rooms)) in
@@ -51,14 +51,14 @@ returns-in_err-print_disk_fresh-clause-stopped g c =
     let last : List (List (List ℕ)) = (codes "end" ∷ []) ∷ [] in
     let whole = first ++ (levels ++ (fresh ++ (held ++ last))) in
     let a = look c.args.out.now in
-    let b = look c.print_word.new.out in let d = look c.print_levels.new.out in let e = look c.print_disk_fresh.new.out in
+    let b = look c.print_word.new.out in let d = look c.print_levels.new.out in let e = look c.print_column.new.out in
     let all : ((first ++ levels) ++ fresh) ++ (held ++ last) ≡ whole = ap (λ (l : List (List (List ℕ))). first ++ l) (append_assoc levels fresh (held ++ last)) in
-    err_always c.from_residual-in_err-print_disk_fresh.result (StopsIn (pieces (Disk t)) a e)
-    (writes_stopped (first ++ levels) fresh (held ++ last) whole a d e all (written_then first levels a b d c.in_ok-print_word.ensures.ok (rw c.fast.ensures.value at c.in_ok-print_levels.ensures.ok)) c.in_err-print_disk_fresh.ensures.stopped)
+    err_always c.from_residual-in_err-print_column.result (StopsIn (pieces (Disk t)) a e)
+    (writes_stopped (first ++ levels) fresh (held ++ last) whole a d e all (written_then first levels a b d c.in_ok-print_word.ensures.ok (rw c.fast.ensures.value at c.in_ok-print_levels.ensures.ok)) c.in_err-print_column.ensures.stopped)
 
-pub returns-in_err-print_disk_held-clause-stopped : goal.returns-in_err-print_disk_held-clause-stopped
-returns-in_err-print_disk_held-clause-stopped g c =
-    let look = seen g.O.Sink.told g.O.Sink.call_count g.O.Sink.fault_count in
+pub returns-in_err-print_column-2-clause-stopped : goal.returns-in_err-print_column-2-clause-stopped
+returns-in_err-print_column-2-clause-stopped g c =
+    let look = seen g.O.Sink in
     let t = c.args.tables.now in
     let first : List (List (List ℕ)) = (codes "disk" ∷ []) ∷ [] in
     let levels = flat_map (level_lines t.fast) (range_with_len 0 (length t.fast.rooms)) in
@@ -67,15 +67,15 @@ returns-in_err-print_disk_held-clause-stopped g c =
     let last : List (List (List ℕ)) = (codes "end" ∷ []) ∷ [] in
     let whole = first ++ (levels ++ (fresh ++ (held ++ last))) in
     let a = look c.args.out.now in
-    let b = look c.print_word.new.out in let d = look c.print_levels.new.out in let e = look c.print_disk_fresh.new.out in let f = look c.print_disk_held.new.out in
+    let b = look c.print_word.new.out in let d = look c.print_levels.new.out in let e = look c.print_column.new.out in let f = look c.print_column-2.new.out in
     let all : (((first ++ levels) ++ fresh) ++ held) ++ last ≡ whole =
     ap (λ (l : List (List (List ℕ))). first ++ l) (append_assoc (levels ++ fresh) held last ∙ append_assoc levels fresh (held ++ last)) in
-    err_always c.from_residual-in_err-print_disk_held.result (StopsIn (pieces (Disk t)) a f)
-    (writes_stopped ((first ++ levels) ++ fresh) held last whole a e f all (written_then (first ++ levels) fresh a d e (written_then first levels a b d c.in_ok-print_word.ensures.ok (rw c.fast.ensures.value at c.in_ok-print_levels.ensures.ok)) c.in_ok-print_disk_fresh.ensures.ok) c.in_err-print_disk_held.ensures.stopped)
+    err_always c.from_residual-in_err-print_column-2.result (StopsIn (pieces (Disk t)) a f)
+    (writes_stopped ((first ++ levels) ++ fresh) held last whole a e f all (written_then (first ++ levels) fresh a d e (written_then first levels a b d c.in_ok-print_word.ensures.ok (rw c.fast.ensures.value at c.in_ok-print_levels.ensures.ok)) c.in_ok-print_column.ensures.ok) c.in_err-print_column-2.ensures.stopped)
 
 pub returns-clause-ok : goal.returns-clause-ok
 returns-clause-ok g c =
-    let look = seen g.O.Sink.told g.O.Sink.call_count g.O.Sink.fault_count in
+    let look = seen g.O.Sink in
     let t = c.args.tables.now in
     let first : List (List (List ℕ)) = (codes "disk" ∷ []) ∷ [] in
     let levels = flat_map (level_lines t.fast) (range_with_len 0 (length t.fast.rooms)) in
@@ -84,15 +84,15 @@ returns-clause-ok g c =
     let last : List (List (List ℕ)) = (codes "end" ∷ []) ∷ [] in
     let whole = first ++ (levels ++ (fresh ++ (held ++ last))) in
     let a = look c.args.out.now in
-    let b = look c.print_word.new.out in let d = look c.print_levels.new.out in let e = look c.print_disk_fresh.new.out in let f = look c.print_disk_held.new.out in
+    let b = look c.print_word.new.out in let d = look c.print_levels.new.out in let e = look c.print_column.new.out in let f = look c.print_column-2.new.out in
     let all : (((first ++ levels) ++ fresh) ++ held) ++ last ≡ whole =
     ap (λ (l : List (List (List ℕ))). first ++ l) (append_assoc (levels ++ fresh) held last ∙ append_assoc levels fresh (held ++ last)) in
     last_written c.print_word-2.result (((first ++ levels) ++ fresh) ++ held) last whole a f (look c.print_word-2.new.out) all
-    (written_then ((first ++ levels) ++ fresh) held a e f (written_then (first ++ levels) fresh a d e (written_then first levels a b d c.in_ok-print_word.ensures.ok (rw c.fast.ensures.value at c.in_ok-print_levels.ensures.ok)) c.in_ok-print_disk_fresh.ensures.ok) c.in_ok-print_disk_held.ensures.ok) c.print_word-2.ensures.ok
+    (written_then ((first ++ levels) ++ fresh) held a e f (written_then (first ++ levels) fresh a d e (written_then first levels a b d c.in_ok-print_word.ensures.ok (rw c.fast.ensures.value at c.in_ok-print_levels.ensures.ok)) c.in_ok-print_column.ensures.ok) c.in_ok-print_column-2.ensures.ok) c.print_word-2.ensures.ok
 
 pub returns-clause-stopped : goal.returns-clause-stopped
 returns-clause-stopped g c =
-    let look = seen g.O.Sink.told g.O.Sink.call_count g.O.Sink.fault_count in
+    let look = seen g.O.Sink in
     let t = c.args.tables.now in
     let first : List (List (List ℕ)) = (codes "disk" ∷ []) ∷ [] in
     let levels = flat_map (level_lines t.fast) (range_with_len 0 (length t.fast.rooms)) in
@@ -101,8 +101,8 @@ returns-clause-stopped g c =
     let last : List (List (List ℕ)) = (codes "end" ∷ []) ∷ [] in
     let whole = first ++ (levels ++ (fresh ++ (held ++ last))) in
     let a = look c.args.out.now in
-    let b = look c.print_word.new.out in let d = look c.print_levels.new.out in let e = look c.print_disk_fresh.new.out in let f = look c.print_disk_held.new.out in
+    let b = look c.print_word.new.out in let d = look c.print_levels.new.out in let e = look c.print_column.new.out in let f = look c.print_column-2.new.out in
     let all : (((first ++ levels) ++ fresh) ++ held) ++ last ≡ whole =
     ap (λ (l : List (List (List ℕ))). first ++ l) (append_assoc (levels ++ fresh) held last ∙ append_assoc levels fresh (held ++ last)) in
     last_stopped c.print_word-2.result (((first ++ levels) ++ fresh) ++ held) last whole a f (look c.print_word-2.new.out) all
-    (written_then ((first ++ levels) ++ fresh) held a e f (written_then (first ++ levels) fresh a d e (written_then first levels a b d c.in_ok-print_word.ensures.ok (rw c.fast.ensures.value at c.in_ok-print_levels.ensures.ok)) c.in_ok-print_disk_fresh.ensures.ok) c.in_ok-print_disk_held.ensures.ok) c.print_word-2.ensures.stopped
+    (written_then ((first ++ levels) ++ fresh) held a e f (written_then (first ++ levels) fresh a d e (written_then first levels a b d c.in_ok-print_word.ensures.ok (rw c.fast.ensures.value at c.in_ok-print_levels.ensures.ok)) c.in_ok-print_column.ensures.ok) c.in_ok-print_column-2.ensures.ok) c.print_word-2.ensures.stopped

@@ -8,4 +8,4 @@ use Rattle.cert_text.proofs.printing_rows.print_levels.Given as goal
 abbrev pub invariant-loop-k : goal.invariant-loop-k
 invariant-loop-k g l =
     AddsLines (writes (flat_map (level_lines l.tables) (range_with_len 0 l.k)))
-    (seen g.O.Sink.told g.O.Sink.call_count g.O.Sink.fault_count l.initial.out) (seen g.O.Sink.told g.O.Sink.call_count g.O.Sink.fault_count l.out)
+    (seen g.O.Sink l.initial.out) (seen g.O.Sink l.out)

@@ -11,7 +11,7 @@ use Rattle.cert_text.proofs.printing_rows.print_nested.Goals as goal
 
 pub returns-in_err-print_word-clause-stopped : goal.returns-in_err-print_word-clause-stopped
 returns-in_err-print_word-clause-stopped g c =
-    let look = seen g.O.Sink.told g.O.Sink.call_count g.O.Sink.fault_count in
+    let look = seen g.O.Sink in
     let t = c.args.tables.now in
     let first : List (List (List ℕ)) = (codes "nested" ∷ []) ∷ [] in
     let last : List (List (List ℕ)) = (codes "end" ∷ []) ∷ [] in
@@ -22,7 +22,7 @@ returns-in_err-print_word-clause-stopped g c =
 
 pub returns-in_err-print_levels-clause-stopped : goal.returns-in_err-print_levels-clause-stopped
 returns-in_err-print_levels-clause-stopped g c =
-    let look = seen g.O.Sink.told g.O.Sink.call_count g.O.Sink.fault_count in
+    let look = seen g.O.Sink in
     let t = c.args.tables.now in
     let first : List (List (List ℕ)) = (codes "nested" ∷ []) ∷ [] in
     let last : List (List (List ℕ)) = (codes "end" ∷ []) ∷ [] in
@@ -33,7 +33,7 @@ returns-in_err-print_levels-clause-stopped g c =
 
 pub returns-clause-ok : goal.returns-clause-ok
 returns-clause-ok g c =
-    let look = seen g.O.Sink.told g.O.Sink.call_count g.O.Sink.fault_count in
+    let look = seen g.O.Sink in
     let t = c.args.tables.now in
     let first : List (List (List ℕ)) = (codes "nested" ∷ []) ∷ [] in
     let last : List (List (List ℕ)) = (codes "end" ∷ []) ∷ [] in
@@ -44,7 +44,7 @@ returns-clause-ok g c =
 
 pub returns-clause-stopped : goal.returns-clause-stopped
 returns-clause-stopped g c =
-    let look = seen g.O.Sink.told g.O.Sink.call_count g.O.Sink.fault_count in
+    let look = seen g.O.Sink in
     let t = c.args.tables.now in
     let first : List (List (List ℕ)) = (codes "nested" ∷ []) ∷ [] in
     let last : List (List (List ℕ)) = (codes "end" ∷ []) ∷ [] in

@@ -9,7 +9,7 @@ use Rattle.cert_text.proofs.printing_rows.put_head.Goals as goal
 
 pub returns-in_err-word-clause-stopped : goal.returns-in_err-word-clause-stopped
 returns-in_err-word-clause-stopped g c =
-    let look = seen g.O.Sink.told g.O.Sink.call_count g.O.Sink.fault_count in
+    let look = seen g.O.Sink in
     let letter = c.args.letter.now in let k = decimal c.args.k in let m = decimal c.args.m in
     let p = c.args.piece.now in
     let a = look c.args.out.now in let b = look c.word.new.out in
@@ -18,7 +18,7 @@ returns-in_err-word-clause-stopped g c =
 
 pub returns-in_err-number-clause-stopped : goal.returns-in_err-number-clause-stopped
 returns-in_err-number-clause-stopped g c =
-    let look = seen g.O.Sink.told g.O.Sink.call_count g.O.Sink.fault_count in
+    let look = seen g.O.Sink in
     let letter = c.args.letter.now in let k = decimal c.args.k in let m = decimal c.args.m in
     let p = c.args.piece.now in let q = c.word.new.self in
     let a = look c.args.out.now in let b = look c.word.new.out in let d = look c.number.new.out in
@@ -28,7 +28,7 @@ returns-in_err-number-clause-stopped g c =
 
 pub returns-clause-ok : goal.returns-clause-ok
 returns-clause-ok g c =
-    let look = seen g.O.Sink.told g.O.Sink.call_count g.O.Sink.fault_count in
+    let look = seen g.O.Sink in
     let letter = c.args.letter.now in let k = decimal c.args.k in let m = decimal c.args.m in
     let p = c.args.piece.now in let q = c.word.new.self in let r = c.number.new.self in let s = c.number-2.new.self in
     let a = look c.args.out.now in let b = look c.word.new.out in let d = look c.number.new.out in
@@ -37,7 +37,7 @@ returns-clause-ok g c =
 
 pub returns-clause-stopped : goal.returns-clause-stopped
 returns-clause-stopped g c =
-    let look = seen g.O.Sink.told g.O.Sink.call_count g.O.Sink.fault_count in
+    let look = seen g.O.Sink in
     let letter = c.args.letter.now in let k = decimal c.args.k in let m = decimal c.args.m in
     let p = c.args.piece.now in let q = c.word.new.self in let r = c.number.new.self in
     let a = look c.args.out.now in let b = look c.word.new.out in let d = look c.number.new.out in

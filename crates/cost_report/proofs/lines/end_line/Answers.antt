@@ -5,5 +5,5 @@ use Rattle.cost_report.proofs.lines.end_line.Goals as goal
 
 pub returns-clause-stopped : goal.returns-clause-stopped
 returns-clause-stopped g c =
-    let look = seen g.O.Sink.told g.O.Sink.call_count g.O.Sink.fault_count in
+    let look = seen g.O.Sink in
     write_stopped c.write.result (c.args.line ++ 10 ∷ []) c.bytes.result.now (look c.args.out.now) (look c.write.new.self) (c.bytes.ensures.value ∙ c.push.ensures) c.write.ensures.refused c.write.ensures.calls c.write.ensures.cause

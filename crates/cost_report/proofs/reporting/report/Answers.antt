@@ -10,7 +10,7 @@ use Rattle.cost_report.proofs.reporting.report.Goals as goal
 
 pub returns-in_err-write_steps-clause-stopped : goal.returns-in_err-write_steps-clause-stopped
 returns-in_err-write_steps-clause-stopped g c =
-    let look = seen g.O.Sink.told g.O.Sink.call_count g.O.Sink.fault_count in
+    let look = seen g.O.Sink in
     let counts = c.args.counts.now in let book = c.args.book.now in
     let a = look c.args.out.now in let b = look c.write_steps.new.out in
     err_always c.from_residual.result (StopsIn (report_lines book counts) a b)
@@ -18,7 +18,7 @@ returns-in_err-write_steps-clause-stopped g c =
 
 pub returns-in_err-write_steps-clause-refused : goal.returns-in_err-write_steps-clause-refused
 returns-in_err-write_steps-clause-refused g c =
-    let look = seen g.O.Sink.told g.O.Sink.call_count g.O.Sink.fault_count in
+    let look = seen g.O.Sink in
     let counts = c.args.counts.now in let book = c.args.book.now in let lines = report_lines book counts in
     let a = look c.args.out.now in let b = look c.write_steps.new.out in
     err_always c.from_residual.result (Tells a.told b.told (AddsPrefix (concat lines)))
@@ -26,7 +26,7 @@ returns-in_err-write_steps-clause-refused g c =
 
 pub returns-in_err-write_levels-clause-stopped : goal.returns-in_err-write_levels-clause-stopped
 returns-in_err-write_levels-clause-stopped g c =
-    let look = seen g.O.Sink.told g.O.Sink.call_count g.O.Sink.fault_count in
+    let look = seen g.O.Sink in
     let counts = c.args.counts.now in let book = c.args.book.now in
     let steps = step_lines counts in let levels = level_lines book counts in
     let a = look c.args.out.now in let b = look c.write_steps.new.out in let d = look c.write_levels.new.out in
@@ -36,7 +36,7 @@ returns-in_err-write_levels-clause-stopped g c =
 
 pub returns-in_err-write_levels-clause-refused : goal.returns-in_err-write_levels-clause-refused
 returns-in_err-write_levels-clause-refused g c =
-    let look = seen g.O.Sink.told g.O.Sink.call_count g.O.Sink.fault_count in
+    let look = seen g.O.Sink in
     let counts = c.args.counts.now in let book = c.args.book.now in let lines = report_lines book counts in
     let steps = step_lines counts in let levels = level_lines book counts in
     let a = look c.args.out.now in let b = look c.write_steps.new.out in let d = look c.write_levels.new.out in
@@ -46,7 +46,7 @@ returns-in_err-write_levels-clause-refused g c =
 
 pub returns-clause-ok : goal.returns-clause-ok
 returns-clause-ok g c =
-    let look = seen g.O.Sink.told g.O.Sink.call_count g.O.Sink.fault_count in
+    let look = seen g.O.Sink in
     let counts = c.args.counts.now in let book = c.args.book.now in
     let steps = step_lines counts in let levels = level_lines book counts in
     let a = look c.args.out.now in let b = look c.write_steps.new.out in let d = look c.write_levels.new.out in
@@ -56,7 +56,7 @@ returns-clause-ok g c =
 
 pub returns-clause-stopped : goal.returns-clause-stopped
 returns-clause-stopped g c =
-    let look = seen g.O.Sink.told g.O.Sink.call_count g.O.Sink.fault_count in
+    let look = seen g.O.Sink in
     let counts = c.args.counts.now in let book = c.args.book.now in
     let steps = step_lines counts in let levels = level_lines book counts in
     let a = look c.args.out.now in let b = look c.write_steps.new.out in let d = look c.write_levels.new.out in
@@ -66,7 +66,7 @@ returns-clause-stopped g c =
 
 pub returns-clause-refused : goal.returns-clause-refused
 returns-clause-refused g c =
-    let look = seen g.O.Sink.told g.O.Sink.call_count g.O.Sink.fault_count in
+    let look = seen g.O.Sink in
     let counts = c.args.counts.now in let book = c.args.book.now in
     let steps = step_lines counts in let levels = level_lines book counts in
     let a = look c.args.out.now in let b = look c.write_steps.new.out in let d = look c.write_levels.new.out in

@@ -8,7 +8,7 @@ use Rattle.cost_report.proofs.reporting.write_levels.Goals as goal
 
 pub loop-k-preserved : goal.loop-k-preserved
 loop-k-preserved g c =
-    let look = seen g.O.Sink.told g.O.Sink.call_count g.O.Sink.fault_count in
+    let look = seen g.O.Sink in
     let line = level_line c.args.counts.now in
     let levels = c.args.book.now.levels in let k = c.loop-k.k in let level = c.level.result.now in
     let a = look c.args.out.now in let b = look c.loop-k.out in let d = look c.write_level.new.out in
@@ -18,7 +18,7 @@ loop-k-preserved g c =
 
 pub returns-in_err-write_level-clause-stopped : goal.returns-in_err-write_level-clause-stopped
 returns-in_err-write_level-clause-stopped g c =
-    let look = seen g.O.Sink.told g.O.Sink.call_count g.O.Sink.fault_count in
+    let look = seen g.O.Sink in
     let line = level_line c.args.counts.now in
     let levels = c.args.book.now.levels in let k = c.loop-k.k in let level = c.level.result.now in
     let a = look c.args.out.now in let b = look c.loop-k.out in let d = look c.write_level.new.out in

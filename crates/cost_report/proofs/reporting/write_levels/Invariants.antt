@@ -8,4 +8,4 @@ use Rattle.cost_report.proofs.reporting.write_levels.Given as goal
 abbrev pub invariant-loop-k : goal.invariant-loop-k
 invariant-loop-k g l =
     AddsLines (map (level_line l.counts) (enumerate_from 0 (take l.k l.book.levels)))
-    (seen g.O.Sink.told g.O.Sink.call_count g.O.Sink.fault_count l.initial.out) (seen g.O.Sink.told g.O.Sink.call_count g.O.Sink.fault_count l.out)
+    (seen g.O.Sink l.initial.out) (seen g.O.Sink l.out)

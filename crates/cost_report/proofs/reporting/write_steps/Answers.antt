@@ -7,7 +7,7 @@ use Rattle.cost_report.proofs.reporting.write_steps.Goals as goal
 
 pub returns-in_err-write_count-clause-stopped : goal.returns-in_err-write_count-clause-stopped
 returns-in_err-write_count-clause-stopped g c =
-    let look = seen g.O.Sink.told g.O.Sink.call_count g.O.Sink.fault_count in
+    let look = seen g.O.Sink in
     let counts = c.args.counts.now in
     let a = look c.args.out.now in let b = look c.write_count.new.out in
     err_always c.from_residual.result (StopsIn (step_lines counts) a b)
@@ -15,7 +15,7 @@ returns-in_err-write_count-clause-stopped g c =
 
 pub returns-in_err-write_count-2-clause-stopped : goal.returns-in_err-write_count-2-clause-stopped
 returns-in_err-write_count-2-clause-stopped g c =
-    let look = seen g.O.Sink.told g.O.Sink.call_count g.O.Sink.fault_count in
+    let look = seen g.O.Sink in
     let counts = c.args.counts.now in
     let forward = count_line (codes "forward ") counts.forward in let taped = count_line (codes "taped ") counts.taped in
     let a = look c.args.out.now in let b = look c.write_count.new.out in let d = look c.write_count-2.new.out in
@@ -24,7 +24,7 @@ returns-in_err-write_count-2-clause-stopped g c =
 
 pub returns-clause-stopped : goal.returns-clause-stopped
 returns-clause-stopped g c =
-    let look = seen g.O.Sink.told g.O.Sink.call_count g.O.Sink.fault_count in
+    let look = seen g.O.Sink in
     let counts = c.args.counts.now in
     let forward = count_line (codes "forward ") counts.forward in let taped = count_line (codes "taped ") counts.taped in
     let a = look c.args.out.now in let b = look c.write_count.new.out in let d = look c.write_count-2.new.out in

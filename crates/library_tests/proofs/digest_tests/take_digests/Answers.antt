@@ -8,8 +8,8 @@ pub known_before-requires-clause-back : goal.known_before-requires-clause-back
 known_before-requires-clause-back g c κs inside =
     subst (λ (s : MachineState). LeadsBack c.take.new.undo.entries s (led_back c.take.new.undo.entries s)) (sym c.take.ensures.state) (leads_there _ _ _ c.take.ensures.has.back)
 
-pub digest_with-requires-clause-back : goal.digest_with-requires-clause-back
-digest_with-requires-clause-back g c κs inside =
+pub digest-requires-clause-back : goal.digest-requires-clause-back
+digest-requires-clause-back g c κs inside =
     subst (λ (s : MachineState). LeadsBack c.take.new.undo.entries s (led_back c.take.new.undo.entries s)) (sym c.take.ensures.state) (leads_there _ _ _ c.take.ensures.has.back)
 
 pub check_digests-requires : goal.check_digests-requires

@@ -1,77 +1,57 @@
 use Rattle.std.proofs.Common.{◌≡◌, ◌≤◌, List, length, subst, sym, ap, ◌∙◌, [], ◌∷◌}
 use Rattle.plan_types.specs.declared.action.Action.{Action}
-use Rattle.level_book.specs.BookCosts.{slots_of, names_of}
-use Rattle.level_book.specs.Valid.{Valid}
-use Rattle.action_text.specs.Faults.{HasFirstFault}
 use Rattle.cert_text.specs.Faults.{HasFirstFault as CertificateFirst}
 use Rattle.bound_cert.specs.Acceptance.{IsAccepted}
 use Rattle.endings.specs.declared.outcome.Outcome.{Outcome}
 use Rattle.reversal.specs.Job.{write}
-use Rattle.endings.specs.Outcomes.{bad_book, bad_text, bad_certificate}
-use Rattle.reversal.specs.InputMeaning.{HasBookFault}
+use Rattle.endings.specs.Outcomes.{bad_certificate}
 use Rattle.reversal.specs.CommandCertify.{DecidesCertify, least_line}
 use Rattle.reversal.specs.Table.{accept}
-use Rattle.reversal.specs.JobModel.{IsRefusal, IsUnweighed}
-use Rattle.reversal.proofs.DecisionLaws.{IsBroken, certify_by_book, certify_by_text, certify_by_rules, certify_by_certificate, certify_by_weight, certify_accepted}
+use Rattle.reversal.specs.JobModel.{IsRefusal, IsUnjudged, IsUnweighed}
+use Rattle.reversal.proofs.DecisionLaws.{certify_refuses, certify_by_certificate, certify_by_weight, certify_accepted}
 use Rattle.reversal.proofs.Decisions.{by_error}
 use Rattle.reversal.proofs.certifying.decide_certify.Goals as goal
 
 pub weigh-requires-clause-few : goal.weigh-requires-clause-few
 weigh-requires-clause-few c =
     let F : List Action → Type 0 = λ l. length l ≤ 16777216 in
-    subst F (sym c.deref-2.ensures.value) c.in_ok-list.ensures.found.few
+    subst F (sym c.deref.ensures.value) c.in_ok-book.ensures.list.few
 
 pub returns-in_err-book : goal.returns-in_err-book
 returns-in_err-book c counts =
     by_error _ _ c.from_residual.result _ c.from_residual.ensures.1 (λ e gives.
     let same : c.in_err-book.field-0.0 ≡ e = cc in
-    let P : Outcome → Type 0 = λ x. IsRefusal (HasBookFault c.args.book.now) bad_book x in
-    certify_by_book c.args.steps c.args.book.now c.args.schedule.now c.args.certificate.now e (subst P same c.in_err-book.ensures.refused))
-
-pub returns-in_err-list : goal.returns-in_err-list
-returns-in_err-list c counts =
-    by_error _ _ c.from_residual-in_err-list.result _ c.from_residual-in_err-list.ensures.1 (λ e gives.
-    let same : c.in_err-list.field-0.0 ≡ e = cc in
-    let P : Outcome → Type 0 = λ x. IsRefusal (HasFirstFault (names_of c.in_ok-book.book) c.args.schedule.now) bad_text x in
-    certify_by_text c.args.steps c.args.book.now c.args.schedule.now c.args.certificate.now e c.in_ok-book.book c.in_ok-book.ensures.found (subst P same c.in_err-list.ensures.refused))
-
-pub returns-in_err-judge : goal.returns-in_err-judge
-returns-in_err-judge c counts =
-    by_error _ _ c.from_residual-in_err-judge.result _ c.from_residual-in_err-judge.ensures.1 (λ e gives.
-    let same : c.in_err-judge.field-0.0 ≡ e = cc in
-    let slots = slots_of c.in_ok-book.book in
-    let L : List Action → Type 0 = λ l. IsBroken c.args.steps slots l c.in_err-judge.field-0.0 in
-    let P : Outcome → Type 0 = λ x. IsBroken c.args.steps slots c.in_ok-list.list.items x in
-    certify_by_rules c.args.steps c.args.book.now c.args.schedule.now c.args.certificate.now e c.in_ok-book.book c.in_ok-list.list.items c.in_ok-book.ensures.found c.in_ok-list.ensures.found (subst P same (subst L c.deref.ensures.value c.in_err-judge.ensures.broken)))
+    let P : Outcome → Type 0 = λ x. IsUnjudged c.args.steps c.args.book.now c.args.schedule.now x in
+    certify_refuses c.args.steps c.args.book.now c.args.schedule.now c.args.certificate.now e (subst P same c.in_err-book.ensures.refused))
 
 pub returns-in_err-certificate : goal.returns-in_err-certificate
 returns-in_err-certificate c counts =
     by_error _ _ c.from_residual-in_err-certificate.result _ c.from_residual-in_err-certificate.ensures.1 (λ e gives.
     let same : c.in_err-certificate.field-0.0 ≡ e = cc in
-    let L : List Action → Type 0 = λ l. Valid c.args.steps (slots_of c.in_ok-book.book) l in
+    let valid = c.in_ok-book.ensures in
     let P : Outcome → Type 0 = λ x. IsRefusal (CertificateFirst c.args.steps c.in_ok-book.book c.args.certificate.now) bad_certificate x in
-    certify_by_certificate c.args.steps c.args.book.now c.args.schedule.now c.args.certificate.now e c.in_ok-book.book c.in_ok-list.list.items c.in_ok-book.ensures.found c.in_ok-list.ensures.found (subst L c.deref.ensures.value c.in_ok-judge.ensures.valid) (subst P same c.in_err-certificate.ensures.refused))
+    certify_by_certificate c.args.steps c.args.book.now c.args.schedule.now c.args.certificate.now e c.in_ok-book.book c.in_ok-book.list.items valid.book valid.list valid.valid (subst P same c.in_err-certificate.ensures.refused))
 
 pub returns-in_err-class : goal.returns-in_err-class
 returns-in_err-class c counts =
     by_error _ _ c.from_residual-in_err-class.result _ c.from_residual-in_err-class.ensures.1 (λ e gives.
     let same : c.in_err-class.field-0.0 ≡ e = cc in
     let book = c.in_ok-book.book in
-    let L : List Action → Type 0 = λ l. Valid c.args.steps (slots_of book) l in
+    let valid = c.in_ok-book.ensures in
     let W : List Action → Type 0 = λ l. IsUnweighed c.args.steps book l c.in_ok-certificate.certificate c.in_err-class.field-0.0 in
-    let P : Outcome → Type 0 = λ x. IsUnweighed c.args.steps book c.in_ok-list.list.items c.in_ok-certificate.certificate x in
-    certify_by_weight c.args.steps c.args.book.now c.args.schedule.now c.args.certificate.now e book c.in_ok-list.list.items c.in_ok-certificate.certificate c.in_ok-book.ensures.found c.in_ok-list.ensures.found (subst L c.deref.ensures.value c.in_ok-judge.ensures.valid) c.in_ok-certificate.ensures.found (subst P same (subst W c.deref-2.ensures.value c.in_err-class.ensures.refused)))
+    let P : Outcome → Type 0 = λ x. IsUnweighed c.args.steps book c.in_ok-book.list.items c.in_ok-certificate.certificate x in
+    certify_by_weight c.args.steps c.args.book.now c.args.schedule.now c.args.certificate.now e book c.in_ok-book.list.items c.in_ok-certificate.certificate valid.book valid.list valid.valid c.in_ok-certificate.ensures.found (subst P same (subst W c.deref.ensures.value c.in_err-class.ensures.refused)))
 
 pub returns : goal.returns
 returns c counts =
     let book = c.in_ok-book.book in
     let k = c.in_ok-certificate.certificate in
-    let L : List Action → Type 0 = λ l. Valid c.args.steps (slots_of book) l in
+    let valid = c.in_ok-book.ensures in
     let A : List Action → Type 0 = λ l. IsAccepted l c.args.steps book k in
     let P : List _ → Type 0 = λ text. DecidesCertify c.args.steps c.args.book.now c.args.schedule.now c.args.certificate.now (accept (write (text ∷ []))) in
     record {
       accepted = subst P (sym (c.least_line.ensures ∙ ap least_line c.in_ok-class.ensures.accepted.0))
-          (certify_accepted c.args.steps c.args.book.now c.args.schedule.now c.args.certificate.now book c.in_ok-list.list.items k c.in_ok-book.ensures.found c.in_ok-list.ensures.found (subst L c.deref.ensures.value c.in_ok-judge.ensures.valid) c.in_ok-certificate.ensures.found (subst A c.deref-2.ensures.value c.in_ok-class.ensures.accepted.1));
+          (certify_accepted c.args.steps c.args.book.now c.args.schedule.now c.args.certificate.now book c.in_ok-book.list.items k valid.book valid.list valid.valid c.in_ok-certificate.ensures.found (subst A c.deref.ensures.value c.in_ok-class.ensures.accepted.1));
       can_be_done = tt;
       room = tt;
       refused = tt;

@@ -17,8 +17,8 @@ use Rattle.reversal.proofs.RevolvePlan.{as_many}
 use Rattle.reversal.proofs.DecisionLaws.{disk_accepted}
 use Rattle.reversal.proofs.disk.disk_text.Goals as goal
 
-pub certified_text-requires : goal.certified_text-requires
-certified_text-requires g c =
+pub plan_text-requires : goal.plan_text-requires
+plan_text-requires g c =
     let b = c.in_ok-book.book in
     let S : List Action → Type 0 = λ l. AllByRecursion (HasSpelling (names_of b)) l in
     subst S (sym c.new.ensures) (valid_spelled c.args.steps (slots_of b) (names_of b) c.in_ok-list.list.items (omega (arith, c.requires.steps)) (as_many b) c.in_ok-list.ensures.disk.nested.0)

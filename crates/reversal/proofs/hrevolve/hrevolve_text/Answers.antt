@@ -45,8 +45,8 @@ returns-in_err-list g c counts =
     let P : Outcome → Type 0 = λ x. (x ≡ no_memory) ⊎ IsUnnested c.args.steps c.in_ok-book.book x in
     hrevolve_by_plan c.args.steps c.args.book.now e c.in_ok-book.book c.in_ok-book.ensures.found c.in_default.ensures (subst P same c.in_err-list.ensures.refused))
 
-pub certified_text-requires : goal.certified_text-requires
-certified_text-requires g c =
+pub plan_text-requires : goal.plan_text-requires
+plan_text-requires g c =
     let b = c.in_ok-book.book in
     let S : List Action → Type 0 = λ l. AllByRecursion (HasSpelling (names_of b)) l in
     subst S (sym c.new.ensures) (valid_spelled c.args.steps (slots_of b) (names_of b) c.in_ok-list.list.items (omega (arith, c.requires.steps)) (as_many b) c.in_ok-list.ensures.nested.0)

@@ -40,8 +40,8 @@ returns-in_err-plan c counts =
     let P : Outcome → Type 0 = λ x. IsUnstaged c.args.steps c.in_ok-book.book x in
     multistage_by_plan c.args.steps c.args.book.now e c.in_ok-book.book c.in_ok-book.ensures.found (subst P same c.in_err-plan.ensures.refused))
 
-pub certified_text-requires : goal.certified_text-requires
-certified_text-requires c =
+pub plan_text-requires : goal.plan_text-requires
+plan_text-requires c =
     let b = c.in_ok-book.book in
     let list = c.in_ok-plan.plan.actions in
     valid_spelled c.args.steps (slots_of b) (names_of b) list c.requires.steps (as_many b) (multistage_valid c.args.steps b list c.in_ok-plan.ensures.class)

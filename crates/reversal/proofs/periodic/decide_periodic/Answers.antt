@@ -1,4 +1,4 @@
-use Rattle.std.proofs.Common.{◌≡◌, ◌⊎◌, List, sym, ◌∙◌, ap, subst}
+use Rattle.std.proofs.Common.{◌≡◌, ◌⊎◌, List, append-nil, sym, ◌∙◌, ap, subst}
 use Rattle.std.specs.List.{AllByRecursion}
 use Rattle.plan_types.specs.declared.action.Action.{Action}
 use Rattle.level_book.specs.BookCosts.{slots_of, names_of}
@@ -34,8 +34,8 @@ returns-in_err-periodic c counts =
     let P : Outcome → Type 0 = λ x. (x ≡ no_memory) ⊎ IsUnperiodic c.args.plan.now.steps c.args.plan.now.period c.in_ok-book.book x in
     periodic_by_plan c.args.plan.now.steps c.args.plan.now.period c.args.book.now e c.in_ok-book.book c.in_ok-book.ensures.found (subst P same c.in_err-periodic.ensures.refused))
 
-pub list_text-requires : goal.list_text-requires
-list_text-requires c =
+pub plan_text-requires : goal.plan_text-requires
+plan_text-requires c =
     let b = c.in_ok-book.book in
     let S : List Action → Type 0 = λ l. AllByRecursion (HasSpelling (names_of b)) l in
     subst S (sym c.in_ok-periodic.ensures.list) (valid_spelled c.args.plan.now.steps (slots_of b) (names_of b) (periodic_list c.args.plan.now.steps c.args.plan.now.period b) c.requires.steps (as_many b) (periodic_valid c.args.plan.now.steps c.args.plan.now.period b c.requires.some c.in_ok-periodic.ensures.plan))
@@ -46,7 +46,7 @@ returns c counts =
     let plan = c.in_ok-periodic.ensures.plan in
     let D : Job → Type 0 = λ j. DecidesPlanPeriodic c.args.plan.now.steps c.args.plan.now.period c.args.book.now (accept j) in
     record {
-      accepted = subst D (sym (c.in_ok-job.ensures.job ∙ ap (λ l. write (list_pieces (names_of b) l)) c.in_ok-periodic.ensures.list))
+      accepted = subst D (sym (c.in_ok-job.ensures.job ∙ ap write (append-nil _) ∙ ap (λ l. write (list_pieces (names_of b) l)) c.in_ok-periodic.ensures.list))
           (periodic_accepted c.args.plan.now.steps c.args.plan.now.period c.args.book.now b c.in_ok-book.ensures.found plan.two plan.fast plan.slow);
       can_be_done = c.in_ok-job.ensures.can_be_done;
       room = c.in_ok-job.ensures.room counts;

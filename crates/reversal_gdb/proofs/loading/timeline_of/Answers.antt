@@ -69,16 +69,16 @@ returns-clause-loaded g c =
     ] in
     let first = ap (λ (t : TimelineState). t.run.first) begun in
     let pages : c.count.result ≡ length (page_numbers start.memory) = search rules in
-    let budget : c.budget_for-budget.result ≡ budget_for run.options.marks (length (page_numbers start.memory)) = c.budget_for-budget.ensures ∙ ap (λ (n : ℕ). budget_for n c.count.result) c.marks.ensures ∙ ap (budget_for run.options.marks) pages in
+    let budget : c.budget_for-budget.result ≡ budget_for run.options.marks (length (page_numbers start.memory)) = c.budget_for-budget.ensures ∙ ap (budget_for run.options.marks) pages in
     let K : ℕ → Type 0 = λ n. c.in_ok-begin.field-0.room ≡ marks_for (budget_for run.options.marks n) n in
     record {
       program = program;
       journal = text_of c.match-run.journal;
       is_program = text;
       is_journal = recorded;
-      start = same_start _ _ _ _ _ _ _ _ c.is_raw.ensures c.stack_pages.ensures c.as_slice.ensures.value (sym first) c.in_ok-start.ensures.found;
+      start = same_start run.options.raw run.options.stack _ _ _ _ c.as_slice.ensures.value (sym first) c.in_ok-start.ensures.found;
       items = search rules;
-      most = ap (λ (t : TimelineState). t.run.most) begun ∙ c.most_steps.ensures;
+      most = ap (λ (t : TimelineState). t.run.most) begun;
       place = (ap (λ (t : TimelineState). t.place) begun, ap (λ (t : TimelineState). t.reached) begun);
       room = subst K (ap (λ (s : MachineState). length (page_numbers s.memory)) (sym first)) (ap (λ (t : TimelineState). t.room) begun ∙ ap (λ (b : ℕ). marks_for b (length (page_numbers start.memory))) budget);
     }

@@ -18,10 +18,10 @@ returns-in-Err-clause-read c =
 
 pub lines-preserved : goal.lines-preserved
 lines-preserved c = record {
-  read = step_ok c.args.count c.lines.orders.items c.add.new.orders.items c.lines.number c.in-Some.text.now c.next.new.self c.lines.lines c.in-Ok.found c.in-Some.ensures.value c.in-Ok.ensures c.in_ok-add.ensures.added
+  read = step_ok c.args.count c.lines.orders.items c.push_found.new.list.items c.lines.number c.in-Some.text.now c.next.new.self c.lines.lines c.in-Ok.found c.in-Some.ensures.value c.in-Ok.ensures c.in_ok-push_found.ensures.added
       ∙ c.lines.invariant.read;
   number = omega (arith, ap length c.in-Some.ensures.value, c.lines.invariant.number);
-  few = omega (arith, ap length c.in_ok-add.ensures.added, one_more_order c.lines.orders.items c.in-Ok.found, c.lines.invariant.few);
+  few = omega (arith, ap length c.in_ok-push_found.ensures.added, one_more_order c.lines.orders.items c.in-Ok.found, c.lines.invariant.few);
 }
 
 pub returns-clause-read : goal.returns-clause-read

@@ -5,4 +5,4 @@ pub returns-in-Some : goal.returns-in-Some
 returns-in-Some c = first_of_fresh c.args.costs c.args.columns.now c.args.steps c.in-Some.entry c.in-Some.ensures
 
 pub returns : goal.returns
-returns c = first_of_both c.args.costs c.args.columns.now c.args.steps c.disk_held_column.result c.in_default.ensures c.disk_held_column.ensures
+returns c = first_of_both c.args.costs c.args.columns.now c.args.steps c.first_in_column-2.result c.in_default.ensures c.first_in_column-2.ensures

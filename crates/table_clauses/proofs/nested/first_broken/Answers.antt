@@ -16,4 +16,4 @@ pub returns : goal.returns
 returns c =
     let rows = c.args.tables.now in let book = c.args.book.now in
     let P : Option Place → Type 0 = Finds (InTable 0 (Breaks rows.steps book (tables_in rows))) in
-    both_found rows.steps book (tables_in rows) c.first_held.result (subst P c.in_default.is c.in_ok-entry.ensures) c.first_held.ensures
+    both_found rows.steps book (tables_in rows) c.first_in_table-2.result (subst P c.in_default.is c.in_ok-entry.ensures) c.first_in_table-2.ensures

@@ -1,4 +1,4 @@
-use Rattle.std.proofs.Common.{◌≡◌, ℕ, suc, ◌≤◌, IfSome, length, slice_index, arith, sym, subst}
+use Rattle.std.proofs.Common.{◌≡◌, ℕ, suc, ◌≤◌, IfSome, length, slice_index, arith, rules, sym, subst}
 use Rattle.level_book.specs.BookCosts.{room}
 use Rattle.table_clauses.specs.declared.entry.Entry.{Entry as Place}
 use Rattle.table_clauses.specs.ClauseFailures.{IsFirst}
@@ -9,23 +9,23 @@ use Rattle.table_clauses.specs.Splits.{at_step, AreBelowSplits}
 use Rattle.table_clauses.proofs.BelowSplits.{enough_before, below_before}
 use Rattle.table_clauses.proofs.nested.fresh_level.Goals as goal
 
-pub fresh_column-requires-clause-enough : goal.fresh_column-requires-clause-enough
-fresh_column-requires-clause-enough c =
-    let rows = c.args.tables.now in let k = c.args.k in let m = c.loop-m.m in let least = c.splits_before-least.result.now in let before = c.in_ok-columns.columns.before in
+pub first_in_column-requires : goal.first_in_column-requires
+first_in_column-requires c =
+    let rows = c.args.level.now.tables.now in let k = c.args.level.now.k in let m = c.loop-m.m in let least = c.splits_before.result.now in let before = c.in_ok-columns.columns.before in
+    let splits = c.requires.splits in
     let P : ℕ → Type 0 = λ steps. IfSome before (λ _. steps ≤ length least) in
-    subst P (sym c.steps.ensures)
-    (enough_before rows c.args.book.now.forward k m c.args.splits.now least c.requires.splits (omega (arith, c.requires.splits.count)) c.splits_before-least.ensures before c.in_ok-columns.ensures.before)
-
-pub fresh_column-requires-clause-below : goal.fresh_column-requires-clause-below
-fresh_column-requires-clause-below c =
-    let rows = c.args.tables.now in let k = c.args.k in let m = c.loop-m.m in let least = c.splits_before-least.result.now in let before = c.in_ok-columns.columns.before in
-    let P : ℕ → Type 0 = λ forward. IfSome before (λ pair. AreBelowSplits forward (at_step pair.fresh.items) (at_step pair.held.items) least) in
-    subst P (sym c.costs_of-costs.ensures.forward)
-    (below_before rows c.args.book.now.forward k m c.args.splits.now least c.requires.splits (omega (arith, c.requires.splits.count)) c.splits_before-least.ensures before c.in_ok-columns.ensures.before)
+    let Q : ℕ → Type 0 = λ forward. IfSome before (λ pair. AreBelowSplits forward (at_step pair.fresh.items) (at_step pair.held.items) least) in
+    record {
+      few = omega (arith, c.requires.few, c.steps.ensures);
+      cheap = c.costs_of-costs.ensures.cheap;
+      long = search rules;
+      enough = subst P (sym c.steps.ensures) (enough_before rows c.args.level.now.book.now.forward k m c.args.level.now.splits.now least splits (omega (arith, splits.count)) c.splits_before.ensures before c.in_ok-columns.ensures.before);
+      below = subst Q (sym c.costs_of-costs.ensures.forward) (below_before rows c.args.level.now.book.now.forward k m c.args.level.now.splits.now least splits (omega (arith, splits.count)) c.splits_before.ensures before c.in_ok-columns.ensures.before);
+    }
 
 pub returns-in-Some : goal.returns-in-Some
 returns-in-Some c =
-    let rows = c.args.tables.now in let book = c.args.book.now in let k = c.args.k in let m = c.loop-m.m in
+    let rows = c.args.level.now.tables.now in let book = c.args.level.now.book.now in let k = c.args.level.now.k in let m = c.loop-m.m in
     let rooms : (j : ℕ) → suc j ≡ k → slice_index rows.rooms j ≡ room book j rows.steps = λ j e. c.requires.rooms j (omega arith) in
     let free : m ≤ room book k rows.steps = omega (arith, c.requires.rooms k (omega arith)) in
     let P : ℕ → Type 0 = λ steps. IsFirst (InFreshColumn c.costs_of-costs.result c.in_ok-columns.columns k m steps) c.in-Some.entry in
@@ -34,14 +34,14 @@ returns-in-Some c =
 
 pub loop-m-preserved : goal.loop-m-preserved
 loop-m-preserved c =
-    let rows = c.args.tables.now in let book = c.args.book.now in let k = c.args.k in let m = c.loop-m.m in
+    let rows = c.args.level.now.tables.now in let book = c.args.level.now.book.now in let k = c.args.level.now.k in let m = c.loop-m.m in
     let rooms : (j : ℕ) → suc j ≡ k → slice_index rows.rooms j ≡ room book j rows.steps = λ j e. c.requires.rooms j (omega arith) in
     let P : ℕ → Type 0 = λ steps. (q : Place) → InFreshColumn c.costs_of-costs.result c.in_ok-columns.columns k m steps q → ⊥ in
     fresh_more rows book k c.costs_of-costs.result c.costs_of-costs.ensures rooms m c.in_ok-columns.columns c.in_ok-columns.ensures c.loop-m.invariant (subst P c.steps.ensures c.in_default.ensures)
 
 pub returns-in_default : goal.returns-in_default
 returns-in_default c = λ p broken.
-    let rows = c.args.tables.now in let book = c.args.book.now in let k = c.args.k in let m = c.loop-m.m in
+    let rows = c.args.level.now.tables.now in let book = c.args.level.now.book.now in let k = c.args.level.now.k in let m = c.loop-m.m in
     let rooms : (j : ℕ) → suc j ≡ k → slice_index rows.rooms j ≡ room book j rows.steps = λ j e. c.requires.rooms j (omega arith) in
     let P : ℕ → Type 0 = λ steps. (q : Place) → InFreshColumn c.costs_of-costs.result c.in_ok-columns.columns k m steps q → ⊥ in
     let within = fresh_within rows.steps book (tables_in rows) k p broken in
@@ -50,6 +50,6 @@ returns-in_default c = λ p broken.
 
 pub returns : goal.returns
 returns c = λ p broken.
-    let rows = c.args.tables.now in let book = c.args.book.now in let k = c.args.k in
+    let rows = c.args.level.now.tables.now in let book = c.args.level.now.book.now in let k = c.args.level.now.k in
     let within = fresh_within rows.steps book (tables_in rows) k p broken in
     c.loop-m.invariant p broken.0 broken.1 (omega (arith, within, c.requires.rooms k (omega arith))) broken.2

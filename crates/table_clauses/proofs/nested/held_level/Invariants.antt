@@ -5,4 +5,4 @@ use Rattle.table_clauses.specs.ClauseFailures.{Breaks}
 use Rattle.table_clauses.proofs.nested.held_level.Given as goal
 
 abbrev pub invariant-loop-m : goal.invariant-loop-m
-invariant-loop-m l = (q : Place) → q.table ≡ 1 → q.level ≡ l.k → q.free < l.m → Breaks l.tables.steps l.book (tables_in l.tables) q → ⊥
+invariant-loop-m l = (q : Place) → q.table ≡ 1 → q.level ≡ l.level.k → q.free < l.m → Breaks l.level.tables.now.steps l.level.book.now (tables_in l.level.tables.now) q → ⊥

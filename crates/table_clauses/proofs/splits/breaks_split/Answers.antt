@@ -11,5 +11,5 @@ returns-then-is_within c =
       λ e. absurd (false≢true e),
       λ fails.
           let j = fails.0 in let i = fails.1 in
-          absurd (fails.5 (within_sum (value_of c.args.own) (at_step c.args.fresh.now i) (at_step c.args.held.now j) c.args.first c.args.least (j * c.args.forward) low (c.requires.below j i fails.2 fails.3 fails.4))),
+          absurd (fails.5 (within_sum (value_of c.args.own) (at_step c.args.splits.now.fresh.now i) (at_step c.args.splits.now.held.now j) c.args.splits.now.first c.args.least (j * c.args.splits.now.forward) low (c.requires.below j i fails.2 fails.3 fails.4))),
     )

@@ -7,7 +7,7 @@ use Rattle.cert_text.proofs.piece.Piece.word.Goals as goal
 
 pub returns-in_err-write-clause-stopped : goal.returns-in_err-write-clause-stopped
 returns-in_err-write-clause-stopped g c =
-    let look = seen g.O.Sink.told g.O.Sink.call_count g.O.Sink.fault_count in
+    let look = seen g.O.Sink in
     let self = c.args.self.now in
     let a = look c.args.out.now in let b = look c.write.new.self in
     let none : self.room ≡ 0 = omega (arith, c.if-self-gt0.false) in
@@ -17,7 +17,7 @@ returns-in_err-write-clause-stopped g c =
 
 pub returns-clause-ok : goal.returns-clause-ok
 returns-clause-ok g c =
-    let look = seen g.O.Sink.told g.O.Sink.call_count g.O.Sink.fault_count in
+    let look = seen g.O.Sink in
     let self = c.args.self.now in
     let a = look c.args.out.now in let b = look c.write.new.self in
     let none : self.room ≡ 0 = omega (arith, c.if-self-gt0.false) in

@@ -8,6 +8,6 @@ pub returns-then-is_err-clause-begun : goal.returns-then-is_err-clause-begun
 returns-then-is_err-clause-begun g c = none_begin (g.D.Disk.told c.args.self.now.disk) c.clear.new.self.items (λ files. bytes_in files c.args.name.now) c.clear.ensures.items
 
 pub returns-in-Err-clause-cause : goal.returns-in-Err-clause-cause
-returns-in-Err-clause-cause g c = (λ failed.
+returns-in-Err-clause-cause g c = (λ _.
     subst (λ inputs. MayFailAt g.D.Disk.told g.D.Disk.may_fail inputs c.args.name.now) c.reserve_piece.ensures.rest
-    (c.in-Err.ensures.cause (λ kind. cc (c.input_fault.ensures.memory kind, failed))))
+    (c.in-Err.ensures.cause (λ kind. cc (c.is_fault.ensures.memory kind))))
