@@ -3,7 +3,7 @@
 use table_clauses::Entry;
 
 /// The lists among which one is least.
-#[derive(Clone, Copy, Debug, PartialEq, Eq)]
+#[derive(Clone, Copy, PartialEq, Eq)]
 pub enum Class {
     /// All valid lists, by their forward steps.
     Valid,
@@ -16,7 +16,7 @@ pub enum Class {
 }
 
 /// Why a certificate isn't accepted.
-#[derive(Clone, Copy, Debug, PartialEq, Eq)]
+#[derive(Clone, Copy, PartialEq, Eq)]
 pub enum Reason {
     /// The list isn't valid.
     Invalid,
@@ -33,7 +33,7 @@ pub enum Reason {
 }
 
 /// What a check of a certificate answers.
-#[derive(Clone, Copy, Debug, PartialEq, Eq)]
+#[derive(Clone, Copy, PartialEq, Eq)]
 pub enum CertVerdict {
     /// The list is the least of this class.
     Least(Class),

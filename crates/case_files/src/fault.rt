@@ -3,7 +3,7 @@
 use std::alloc::AllocError;
 
 /// Why a line is no case.
-#[derive(Clone, Copy, Debug, PartialEq, Eq)]
+#[derive(Clone, Copy, PartialEq, Eq)]
 pub enum CaseFault {
     /// A member is not of its form.
     Form,

@@ -14,13 +14,13 @@ use Rattle.line_texts.specs.declared.fault.Fault.{Fault}
 use Rattle.cert_text.specs.declared.kind.Kind.TheVariants as kind
 use Rattle.cert_text.specs.Words.{texts_of}
 use Rattle.cert_text.specs.WordLines.{row_line, level_lines, column_lines}
-use Rattle.cert_text.specs.Meaning.{HasWord, HaveWords, HaveDiskText}
+use Rattle.cert_text.specs.Meaning.{HasWord, HaveDiskText}
 use Rattle.cert_text.specs.Grammar.{Want, this_word, row_wants, column_wants, later_wants}
 use Rattle.cert_text.specs.Faults.{IsLineFault}
 use Rattle.cert_text.specs.ReaderState.{Unread, IsAt, IsAmong}
-use Rattle.cert_text.specs.Rows.{Reads, wants_for, cost_word}
+use Rattle.cert_text.specs.Rows.{Reads, wants_for, cost_word, disk_wants, ReadsDisk}
 use Rattle.cert_text.proofs.ReadRows.{listed_costs}
-use Rattle.cert_text.proofs.ReadTables.{fault_behind, fault_at_end}
+use Rattle.cert_text.proofs.ReadTables.{fault_behind, fault_in_tables}
 
 abbrev fresh_head : List (List ℕ)
 fresh_head = codes "Fd" ∷ []
@@ -31,32 +31,39 @@ held_head = codes "Hd" ∷ []
 abbrev end_wants : List (List Want)
 end_wants = (this_word (codes "end") ∷ []) ∷ []
 
--- ---- faults behind the lines of level 0
+-- ---- faults behind the lines of the levels
 
-pub fresh_fault : (steps n : ℕ) (book : BookCosts) (s : TableRows) (said : List (List (List ℕ))) (a b : Unread) (fault : Fault) → n ≡ steps → AreFor steps (fastest book) s →
-    Reads (flat_map (wants_for s) (range_with_len 0 (length s.rooms))) said a b → IsAmong (row_wants (codes "Fd" ∷ []) n ∷ []) b fault → IsAt (IsLineFault (later_wants kind.Disk steps book) a.lines a.count) fault
-fresh_fault steps n book s said a b fault long sized reads wrong =
+pub fresh_fault : (n : ℕ) (s : TableRows) (said : List (List (List ℕ))) (a b : Unread) (fault : Fault) → n ≡ s.steps →
+    Reads (flat_map (wants_for s) (range_with_len 0 (length s.rooms))) said a b → IsAmong (row_wants (codes "Fd" ∷ []) n ∷ []) b fault → IsAt (IsLineFault (disk_wants s) a.lines a.count) fault
+fresh_fault n s said a b fault long reads wrong =
     let W : ℕ → Type 0 = λ n. IsAmong (row_wants fresh_head n ∷ []) b fault in
-    fault_at_end steps (fastest book) s (column_wants steps) said a b fault sized reads (subst W long wrong (row_wants held_head steps ∷ end_wants))
+    fault_behind (flat_map (wants_for s) (range_with_len 0 (length s.rooms))) (column_wants s.steps) said a b fault reads (subst W long wrong (row_wants held_head s.steps ∷ end_wants))
 
-pub held_fault : (steps n m : ℕ) (book : BookCosts) (s : TableRows) (said x : List (List (List ℕ))) (a b c : Unread) (fault : Fault) → n ≡ steps → m ≡ steps → AreFor steps (fastest book) s →
+pub held_fault : (n m : ℕ) (s : TableRows) (said x : List (List (List ℕ))) (a b c : Unread) (fault : Fault) → n ≡ s.steps → m ≡ s.steps →
     Reads (flat_map (wants_for s) (range_with_len 0 (length s.rooms))) said a b → Reads (row_wants (codes "Fd" ∷ []) n ∷ []) x b c → IsAmong (row_wants (codes "Hd" ∷ []) m ∷ []) c fault →
-    IsAt (IsLineFault (later_wants kind.Disk steps book) a.lines a.count) fault
-held_fault steps n m book s said x a b c fault long wide sized reads first wrong =
+    IsAt (IsLineFault (disk_wants s) a.lines a.count) fault
+held_fault n m s said x a b c fault long wide reads first wrong =
     let R : ℕ → Type 0 = λ n. Reads (row_wants fresh_head n ∷ []) x b c in
     let W : ℕ → Type 0 = λ n. IsAmong (row_wants held_head n ∷ []) c fault in
-    fault_at_end steps (fastest book) s (column_wants steps) said a b fault sized reads
-    (fault_behind (row_wants fresh_head steps ∷ []) (row_wants held_head steps ∷ end_wants) x b c fault (subst R long first) (subst W wide wrong end_wants))
+    fault_behind (flat_map (wants_for s) (range_with_len 0 (length s.rooms))) (column_wants s.steps) said a b fault reads
+    (fault_behind (row_wants fresh_head s.steps ∷ []) (row_wants held_head s.steps ∷ end_wants) x b c fault (subst R long first) (subst W wide wrong end_wants))
 
-pub last_fault : (steps n m : ℕ) (book : BookCosts) (s : TableRows) (said x y : List (List (List ℕ))) (a b c d : Unread) (fault : Fault) → n ≡ steps → m ≡ steps → AreFor steps (fastest book) s →
+pub last_fault : (n m : ℕ) (s : TableRows) (said x y : List (List (List ℕ))) (a b c d : Unread) (fault : Fault) → n ≡ s.steps → m ≡ s.steps →
     Reads (flat_map (wants_for s) (range_with_len 0 (length s.rooms))) said a b → Reads (row_wants (codes "Fd" ∷ []) n ∷ []) x b c → Reads (row_wants (codes "Hd" ∷ []) m ∷ []) y c d →
-    IsAt (IsLineFault ((this_word (codes "end") ∷ []) ∷ []) d.lines d.count) fault → IsAt (IsLineFault (later_wants kind.Disk steps book) a.lines a.count) fault
-last_fault steps n m book s said x y a b c d fault long wide sized reads first second wrong =
+    IsAt (IsLineFault ((this_word (codes "end") ∷ []) ∷ []) d.lines d.count) fault → IsAt (IsLineFault (disk_wants s) a.lines a.count) fault
+last_fault n m s said x y a b c d fault long wide reads first second wrong =
     let R : ℕ → Type 0 = λ n. Reads (row_wants fresh_head n ∷ []) x b c in
     let S : ℕ → Type 0 = λ n. Reads (row_wants held_head n ∷ []) y c d in
-    fault_at_end steps (fastest book) s (column_wants steps) said a b fault sized reads
-    (fault_behind (row_wants fresh_head steps ∷ []) (row_wants held_head steps ∷ end_wants) x b c fault (subst R long first)
-    (fault_behind (row_wants held_head steps ∷ []) end_wants y c d fault (subst S wide second) wrong))
+    fault_behind (flat_map (wants_for s) (range_with_len 0 (length s.rooms))) (column_wants s.steps) said a b fault reads
+    (fault_behind (row_wants fresh_head s.steps ∷ []) (row_wants held_head s.steps ∷ end_wants) x b c fault (subst R long first)
+    (fault_behind (row_wants held_head s.steps ∷ []) end_wants y c d fault (subst S wide second) wrong))
+
+-- such a fault, in tables for so many steps and a book
+pub disk_fault : (steps : ℕ) (book : BookCosts) (s : TableRows) (a : Unread) (fault : Fault) → AreFor steps (fastest book) s → IsAt (IsLineFault (disk_wants s) a.lines a.count) fault →
+    IsAt (IsLineFault (later_wants kind.Disk steps book) a.lines a.count) fault
+disk_fault steps book s a fault sized wrong =
+    let P : ℕ → Type 0 = λ n. IsAt (IsLineFault (flat_map (wants_for s) (range_with_len 0 (length s.rooms)) ++ column_wants n) a.lines a.count) fault in
+    fault_in_tables steps (fastest book) s (column_wants steps) a fault sized (subst P sized.steps_are wrong)
 
 -- ---- all lines were read
 
@@ -85,34 +92,38 @@ pub parts_are : (t : DiskRows) (u : TableRows) (n m : ℕ) (x y z w : List Cost)
     t ≡ record { fast = u; disk_fresh = map value_of (take n (x ++ z)); disk_held = map value_of (take m (y ++ w)) } → t ≡ record { fast = u; disk_fresh = map value_of x; disk_held = map value_of y }
 parts_are t u n m x y z w long wide is = is ∙ (λ i. record { fast = u; disk_fresh = map value_of (kept n x z long i); disk_held = map value_of (kept m y w wide i) })
 
-pub disk_done : (steps : ℕ) (book : BookCosts) (s u : TableRows) (x y : List Cost) (t : DiskRows) (a b c d : Unread) → FastestTablesFit steps book → AreFor steps (fastest book) s →
-    Reads (flat_map (wants_for s) (range_with_len 0 (length s.rooms))) (flat_map (level_lines u) (range_with_len 0 (length s.rooms))) a b → ((k : ℕ) → k < length s.rooms → HaveWords u k) →
-    u.steps ≡ s.steps → u.rooms ≡ s.rooms → AreShaped u → length x ≡ steps → length y ≡ steps →
-    map texts_of b.lines ≡ (codes "Fd" ∷ map cost_word x) ∷ map texts_of c.lines → ((i : ℕ) → i < steps → HasWord (value_of (get_or x i Never))) →
-    map texts_of c.lines ≡ (codes "Hd" ∷ map cost_word y) ∷ map texts_of d.lines → ((i : ℕ) → i < steps → HasWord (value_of (get_or y i Never))) →
-    map texts_of d.lines ≡ (codes "end" ∷ []) ∷ [] → t ≡ record { fast = u; disk_fresh = map value_of x; disk_held = map value_of y } →
+-- the lines, one part after the other
+pub all_said : (said : List (List (List ℕ))) (x y : List Cost) (a b c d : Unread) → map texts_of a.lines ≡ said ++ map texts_of b.lines → map texts_of b.lines ≡ (codes "Fd" ∷ map cost_word x) ∷ map texts_of c.lines →
+    map texts_of c.lines ≡ (codes "Hd" ∷ map cost_word y) ∷ map texts_of d.lines → map texts_of d.lines ≡ (codes "end" ∷ []) ∷ [] →
+    map texts_of a.lines ≡ said ++ (codes "Fd" ∷ map cost_word x) ∷ (codes "Hd" ∷ map cost_word y) ∷ (codes "end" ∷ []) ∷ []
+all_said said x y a b c d levels first second last =
+    levels ∙ (λ i. said ++ (first ∙ (λ j. (codes "Fd" ∷ map cost_word x) ∷ (second ∙ (λ k. (codes "Hd" ∷ map cost_word y) ∷ last k)) j)) i)
+
+pub disk_done : (steps : ℕ) (book : BookCosts) (s u : TableRows) (x y : List Cost) (t : DiskRows) (a : Unread) → FastestTablesFit steps book → AreFor steps (fastest book) s →
+    ReadsDisk a s u x y → AreShaped u → length x ≡ steps → length y ≡ steps → t ≡ record { fast = u; disk_fresh = map value_of x; disk_held = map value_of y } →
     HaveDiskText steps book t × (map texts_of a.lines ≡ flat_map (level_lines t.fast) (range_with_len 0 (length t.fast.rooms)) ++ column_lines t)
-disk_done steps book s u x y t a b c d fit sized reads words same_steps same_rooms shaped x_long y_long first x_words second y_words last is =
+disk_done steps book s u x y t a fit sized reads shaped x_long y_long is =
     let r : DiskRows = record { fast = u; disk_fresh = map value_of x; disk_held = map value_of y } in
-    let long : length u.rooms ≡ length s.rooms = ap (λ (rooms : List ℕ). length rooms) same_rooms in
-    let u_steps : u.steps ≡ steps = same_steps ∙ sized.steps_are in
+    let long : length u.rooms ≡ length s.rooms = ap (λ (rooms : List ℕ). length rooms) reads.rooms in
+    let u_steps : u.steps ≡ steps = reads.steps ∙ sized.steps_are in
     let P : DiskRows → Type 0 = λ t. HaveDiskText steps book t × (map texts_of a.lines ≡ flat_map (level_lines t.fast) (range_with_len 0 (length t.fast.rooms)) ++ column_lines t) in
     let fd = column_line fresh_head x steps u.steps x_long u_steps in
     let hd = column_line held_head y steps u.steps y_long u_steps in
-    let columns : map texts_of b.lines ≡ column_lines r = first ∙ (λ i. fd i ∷ (second ∙ (λ j. hd j ∷ last j)) i) in
+    let S : ℕ → Type 0 = λ n. (i : ℕ) → i < n → HasWord (value_of (get_or x i Never)) in
+    let T : ℕ → Type 0 = λ n. (i : ℕ) → i < n → HasWord (value_of (get_or y i Never)) in
     let has : HaveDiskText steps book r = record {
       fit = fit;
       fast = record {
-        sized = record { steps_are = u_steps; level_count = long ∙ sized.level_count; rooms_are = λ k low. ap (λ (rooms : List ℕ). get_or rooms k 0) same_rooms ∙ sized.rooms_are k low };
+        sized = record { steps_are = u_steps; level_count = long ∙ sized.level_count; rooms_are = λ k low. ap (λ (rooms : List ℕ). get_or rooms k 0) reads.rooms ∙ sized.rooms_are k low };
         shaped = shaped;
-        words = λ k low. words k (omega (arith, long));
+        words = λ k low. reads.levels k (omega (arith, long));
       };
       fresh_long = length-map-is x ∙ x_long;
       held_long = length-map-is y ∙ y_long;
-      fresh = column_words x steps x_long x_words;
-      held = column_words y steps y_long y_words;
+      fresh = column_words x steps x_long (subst S sized.steps_are reads.fresh_words);
+      held = column_words y steps y_long (subst T sized.steps_are reads.held_words);
     } in
-    subst P (sym is) (has, reads.says ∙ (λ i. flat_map (level_lines u) (range_with_len 0 (sym long i)) ++ columns i))
+    subst P (sym is) (has, reads.says ∙ (λ i. flat_map (level_lines u) (range_with_len 0 (sym long i)) ++ fd i ∷ hd i ∷ (codes "end" ∷ []) ∷ []))
   where
     length-map-is : (z : List Cost) → length (map value_of z) ≡ length z
     length-map-is [] = refl

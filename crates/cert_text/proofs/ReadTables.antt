@@ -24,13 +24,19 @@ levels_wanted steps book t sized =
     ap (λ (n : ℕ). flat_map (wants_for t) (range_with_len 0 n)) sized.level_count
     ∙ flat_same (wants_for t) (level_wants steps book) 0 (length book.levels) (λ k low high. level_wanted steps book t k sized (omega arith))
 
+-- a fault in lines where those of the levels are wanted first
+pub fault_in_tables : (steps : ℕ) (book : BookCosts) (t : TableRows) (last : List (List Want)) (a : Unread) (fault : Fault) → AreFor steps book t →
+    IsAt (IsLineFault (flat_map (wants_for t) (range_with_len 0 (length t.rooms)) ++ last) a.lines a.count) fault →
+    IsAt (IsLineFault (flat_map (level_wants steps book) (range_with_len 0 (length book.levels)) ++ last) a.lines a.count) fault
+fault_in_tables steps book t last a fault sized wrong =
+    let P : List (List Want) → Type 0 = λ w. IsAt (IsLineFault (w ++ last) a.lines a.count) fault in
+    subst P (levels_wanted steps book t sized) wrong
+
 -- a fault in the lines of the levels, whatever is wanted behind them
 pub fault_in_levels : (steps : ℕ) (book : BookCosts) (t : TableRows) (last : List (List Want)) (a : Unread) (fault : Fault) → AreFor steps book t →
     IsAmong (flat_map (wants_for t) (range_with_len 0 (length t.rooms))) a fault →
     IsAt (IsLineFault (flat_map (level_wants steps book) (range_with_len 0 (length book.levels)) ++ last) a.lines a.count) fault
-fault_in_levels steps book t last a fault sized wrong =
-    let P : List (List Want) → Type 0 = λ w. IsAt (IsLineFault (w ++ last) a.lines a.count) fault in
-    subst P (levels_wanted steps book t sized) (wrong last)
+fault_in_levels steps book t last a fault sized wrong = fault_in_tables steps book t last a fault sized (wrong last)
 
 -- a fault behind lines
 pub fault_behind : (wants last : List (List Want)) (said : List (List (List ℕ))) (a b : Unread) (fault : Fault) → Reads wants said a b → IsAt (IsLineFault last b.lines b.count) fault → IsAt (IsLineFault (wants ++ last) a.lines a.count) fault
@@ -42,5 +48,4 @@ pub fault_at_end : (steps : ℕ) (book : BookCosts) (t : TableRows) (last : List
     Reads (flat_map (wants_for t) (range_with_len 0 (length t.rooms))) said a b → IsAt (IsLineFault last b.lines b.count) fault →
     IsAt (IsLineFault (flat_map (level_wants steps book) (range_with_len 0 (length book.levels)) ++ last) a.lines a.count) fault
 fault_at_end steps book t last said a b fault sized reads wrong =
-    let P : List (List Want) → Type 0 = λ w. IsAt (IsLineFault (w ++ last) a.lines a.count) fault in
-    subst P (levels_wanted steps book t sized) (fault_behind (flat_map (wants_for t) (range_with_len 0 (length t.rooms))) last said a b fault reads wrong)
+    fault_in_tables steps book t last a fault sized (fault_behind (flat_map (wants_for t) (range_with_len 0 (length t.rooms))) last said a b fault reads wrong)

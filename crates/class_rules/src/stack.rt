@@ -6,7 +6,7 @@ ghost use Rattle.class_rules.specs.Stacks.{images_of, IsStack};
 use std::alloc::{AllocError, Global};
 
 // An image that is held.
-#[derive(Clone, Copy, Debug, PartialEq, Eq)]
+#[derive(Clone, Copy, PartialEq, Eq)]
 pub struct Held {
     pub position: u32,
     pub level: u8,

@@ -5,7 +5,7 @@ ghost use Rattle.cost_fold.specs.TotalCount.{all_counted};
 
 /// How often a list does each thing that a book prices. Writes and reads are counted for each level. At the greatest
 /// cost for each count, the sum fits in 64 bits.
-#[derive(Clone, Copy, Debug, PartialEq, Eq)]
+#[derive(Clone, Copy, PartialEq, Eq)]
 pub struct Counts {
     /// Forward steps, taped ones included.
     pub forward: u64,

@@ -13,7 +13,7 @@ use Rattle.cost_tables.specs.Entries.{fresh_in, held_in, least_split}
 use Rattle.cost_tables.specs.Levels.{IsLevel, base_of, IsModest}
 use Rattle.cost_tables.specs.Rows.{AreRows, IsRow}
 use Rattle.cost_tables.proofs.RowExtension.{pushed}
-use Rattle.cost_tables.specs.TableInvariant.{rows_at, fresh_at, held_at, AreBuilt}
+use Rattle.cost_tables.specs.TableInvariant.{rows_at, fresh_at, held_at, first_in, AreBuilt}
 
 -- what is read of a level of the book
 pub read_level : {X : Type 0} (f : Level → X) → (levels : List Level) (k : ℕ) (d : X) (level : Level) → slice_get levels k ≡ Some level → get_or (map f levels) k d ≡ f level
@@ -21,16 +21,24 @@ read_level f [] k d level e = cc
 read_level f (x ∷ xs) zero d level e = let same : x ≡ level = cc in ap f same
 read_level f (x ∷ xs) (suc k) d level e = read_level f xs k d level e
 
+-- a level before the last one, and the last
+pub level_before : {A : Type 0} (levels : List (Vec A Global)) (level : Vec A Global) (j : ℕ) → j < length levels →
+    get_or (map (λ (level : Vec A Global). level.items) (levels ++ level ∷ [])) j [] ≡ get_or (map (λ (level : Vec A Global). level.items) levels) j []
+level_before {A} levels level j h =
+    ap (λ (l : List (List A)). get_or l j []) (map-append (λ (level : Vec A Global). level.items) levels (level ∷ []))
+    ∙ get_or-append (map (λ (level : Vec A Global). level.items) levels) (level.items ∷ []) [] j (omega (arith, length-map levels (λ (level : Vec A Global). level.items)))
+
+pub level_here : {A : Type 0} (levels : List (Vec A Global)) (level : Vec A Global) (k : ℕ) → length levels ≡ k → get_or (map (λ (level : Vec A Global). level.items) (levels ++ level ∷ [])) k [] ≡ level.items
+level_here {A} levels level k e =
+    ap (λ (l : List (List A)). get_or l k []) (map-append (λ (level : Vec A Global). level.items) levels (level ∷ []))
+    ∙ ap (λ n. get_or (map (λ (level : Vec A Global). level.items) levels ++ level.items ∷ []) n []) (sym e ∙ sym (length-map levels (λ (level : Vec A Global). level.items)))
+    ∙ get_or-append_seam (map (λ (level : Vec A Global). level.items) levels) level.items [] []
+
 rows_before : (levels : List (Vec Row Global)) (rows : Vec Row Global) (j : ℕ) → j < length levels → rows_at (levels ++ rows ∷ []) j ≡ rows_at levels j
-rows_before levels rows j h =
-    ap (λ (l : List (List Row)). get_or l j []) (map-append (λ (rows : Vec Row Global). rows.items) levels (rows ∷ []))
-    ∙ get_or-append (map (λ (rows : Vec Row Global). rows.items) levels) (rows.items ∷ []) [] j (omega (arith, length-map levels (λ (rows : Vec Row Global). rows.items)))
+rows_before levels rows j h = level_before levels rows j h
 
 rows_here : (levels : List (Vec Row Global)) (rows : Vec Row Global) (k : ℕ) → length levels ≡ k → rows_at (levels ++ rows ∷ []) k ≡ rows.items
-rows_here levels rows k e =
-    ap (λ (l : List (List Row)). get_or l k []) (map-append (λ (rows : Vec Row Global). rows.items) levels (rows ∷ []))
-    ∙ ap (λ n. get_or (map (λ (rows : Vec Row Global). rows.items) levels ++ rows.items ∷ []) n []) (sym e ∙ sym (length-map levels (λ (rows : Vec Row Global). rows.items)))
-    ∙ get_or-append_seam (map (λ (rows : Vec Row Global). rows.items) levels) rows.items [] []
+rows_here levels rows k e = level_here levels rows k e
 
 pub level_along : (steps room forward write read : ℕ) (base base' : ℕ → ℕ) (rows rows' : List Row) → rows ≡ rows' → ((r : ℕ) → r < steps → base r ≡ base' r) →
     IsLevel steps room forward write read base (fresh_in rows) (held_in rows) → IsLevel steps room forward write read base' (fresh_in rows') (held_in rows')
@@ -100,6 +108,27 @@ module _ (steps : ℕ) (book : BookCosts) (k : ℕ) (levels : List (Vec Row Glob
                   (sym here) (λ r lt. are.base_is r lt ∙ same_base k r (omega arith)) (subst Upto wide is.level))
             ];
       }
+
+-- no level yet
+first_base : (book : BookCosts) (steps r : ℕ) → first_in (book.forward + book.reverse) r ≡ base_of book.forward book.reverse (λ j. room book j steps) (fresh_at []) 0 r
+first_base book steps zero = refl
+first_base book steps (suc r) = refl
+
+pub built_none : (steps : ℕ) (book : BookCosts) (base : List ℕ) → length base ≡ steps → All (λ n. n ≤ 2 ^ 61) base → ((r : ℕ) → r < steps → get_or base r 0 ≡ first_in (book.forward + book.reverse) r) →
+    AreBuilt steps book 0 [] [] base
+built_none steps book base count low value = record {
+  room_count = refl;
+  rooms_are = λ j lt. absurd (omega arith);
+  row_count = λ j lt. absurd (omega arith);
+  shapes = λ j lt. absurd (omega arith);
+  count = refl;
+  base_count = count;
+  base_low = low;
+  base_is = λ r lt. value r lt ∙ first_base book steps r;
+  cheap_write = λ j lt. absurd (omega arith);
+  cheap_read = λ j lt. absurd (omega arith);
+  are_levels = λ j lt. absurd (omega arith);
+}
 
 -- the costs of a level past the last one
 pub no_cost : (f : Level → ℕ) (levels : List Level) (k : ℕ) → length levels ≤ k → get_or (map f levels) k 0 < 2 ^ 32

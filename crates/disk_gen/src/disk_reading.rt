@@ -79,6 +79,19 @@ fn is_fresh_split(tables: &DiskTables, own: Cost, n: u64, l: u32, j: u32) -> boo
     is_sum(own, n, tables.disk_fresh(l - j), tables.disk_held(j))
 }
 
+// Whether a split after i steps costs as much, where the first state is held on level 1. Here n is the cost of reading
+// that state and of the way to the split.
+fn is_held_split(tables: &DiskTables, own: Cost, n: u64, l: u32, i: u32) -> bool
+    requires l { l ≤ tables.now.fast.steps }
+    requires i { (1 ≤ i) × (i < l) }
+    requires n { n ≤ 2 ^ 62 }
+    ensures yes { result ≡ true → value_of own ≡ sum_of n ((disk_tables_in tables.now).fresh (l - i) (slice_index tables.now.fast.rooms 0)) ((disk_tables_in tables.now).disk_held i) }
+    ensures no { result ≡ false → value_of own ≢ sum_of n ((disk_tables_in tables.now).fresh (l - i) (slice_index tables.now.fast.rooms 0)) ((disk_tables_in tables.now).disk_held i) }
+{
+    let fast = tables.fresh(l - i, tables.room());
+    is_sum(own, n, fast, tables.disk_held(i))
+}
+
 // The fewest steps after which splitting costs so much, where the first state is held on level 1.
 fn held_split(tables: &DiskTables, own: Cost, read: u64, forward: u64, l: u32) -> u32
     requires few { tables.now.fast.steps ≤ 8192 }
@@ -95,11 +108,8 @@ fn held_split(tables: &DiskTables, own: Cost, read: u64, forward: u64, l: u32) -
         value_of own ≢ sum_of (read + i * forward) ((disk_tables_in tables.now).fresh (l - i) (slice_index tables.now.fast.rooms 0))
         ((disk_tables_in tables.now).disk_held i) }
 {
-    let room = tables.room();
     for i in 1..l {
-        let fast = tables.fresh(l - i, room);
-        let held = tables.disk_held(i);
-        if is_sum(own, read + i as u64 * forward, fast, held) {
+        if is_held_split(tables, own, read + i as u64 * forward, l, i) {
             return i;
         }
     }

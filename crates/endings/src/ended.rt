@@ -11,7 +11,7 @@ use line_texts::Fault;
 use table_clauses::Entry;
 
 /// How the top call ended. Numbers and digests that a status doesn't name are 0.
-#[derive(Clone, Copy, Debug, PartialEq, Eq)]
+#[derive(Clone, Copy, PartialEq, Eq)]
 pub struct Ended {
     /// 0 Done, 2 Words, 3 Input, 4 Program, 5 Journal, 6 Book, 7 Text, 8 Invalid, 9 Certificate. 10 Limit, 11 NoPlan,
     /// 12 Keeper, 13 Damaged, 14 Sink, 15 NotLeast. 16 NoKeeper, 17 Memory, 19 Source, 20 Script.

@@ -10,7 +10,7 @@ use line_texts::Fault;
 use std::alloc::{AllocError, AllocFailed};
 
 /// How a call ends. A fault in it isn't the lack of memory, which is `Memory`. Places count from 1.
-#[derive(Clone, Copy, Debug, PartialEq, Eq)]
+#[derive(Clone, Copy, PartialEq, Eq)]
 pub enum Outcome {
     /// The job was done.
     Done,

@@ -9,7 +9,7 @@ use Rattle.gdb_wire.specs.declared.request.Request.{Request}
 use Rattle.gdb_wire.specs.declared.request.Request.TheVariants.{Move}
 use Rattle.run_timeline.specs.Moves.{Run}
 use Rattle.gdb_session.specs.declared.server.Server.{Server}
-use Rattle.gdb_session.specs.Debugger.{Debugger, new_debugger}
+use Rattle.gdb_session.specs.Debugger.{Debugger}
 use Rattle.gdb_session.specs.Answers.{Answers}
 use Rattle.gdb_session.specs.Conversation.{Talker, new_talker, interrupts, Replies, IsLast, AreAnswered, EndsTalk, Passes, Serves, ServesPartly, IsTooLong}
 use Rattle.gdb_session.specs.ServerState.{talker, Holds, OnlyHolds, TakesItem, IsAnsweredBy, IsAnsweredPartly}
@@ -131,12 +131,9 @@ begins run a = (
   },
 )
 
-pub begins_at : (run : Run) (held last : List ℕ) (d : Debugger) (a : Talk) → held ≡ [] → d ≡ new_debugger run → last ≡ [] →
-    GoesOn run held (record { debugger = d; last = last }) a a
-begins_at run held last d a none first never =
-    let with_held = subst (λ l. GoesOn run l (new_talker run) a a) (sym none) (begins run a) in
-    let with_debugger = subst (λ x. GoesOn run held (record { debugger = x; last = [] }) a a) (sym first) with_held in
-    subst (λ l. GoesOn run held (record { debugger = d; last = l }) a a) (sym never) with_debugger
+pub begins_at : (run : Run) (held : List ℕ) (u : Talker) (a : Talk) → held ≡ [] → u ≡ new_talker run → GoesOn run held u a a
+begins_at run held u a none new =
+    subst (λ t. GoesOn run held t a a) (sym new) (subst (λ l. GoesOn run l (new_talker run) a a) (sym none) (begins run a))
 
 -- a piece came, and is held
 pub holds_more : (run : Run) (held : List ℕ) (u : Talker) (piece : List ℕ) (a b c : Talk) → GoesOn run held u a b → Comes piece b c → GoesOn run (held ++ piece) u a c

@@ -12,7 +12,7 @@ use Rattle.gdb_session.specs.declared.server.Kind.TheVariants as kind
 use Rattle.gdb_session.specs.declared.server.Server.{Server}
 use Rattle.gdb_session.specs.Debugger.{Debugger}
 use Rattle.gdb_session.specs.Moves.{Leads, Shows, ending_texts, halt_text}
-use Rattle.gdb_session.specs.Conversation.{Talker, last_packet, if_acks, interrupts, Replies, Passes}
+use Rattle.gdb_session.specs.Conversation.{Talker, new_talker, last_packet, if_acks, interrupts, Replies, Passes}
 
 -- ---- items
 
@@ -26,6 +26,12 @@ said_by kind.AckOrNoise text = ack_or_noise
 
 abbrev pub talker : Server → Talker
 talker s = record { debugger = s.session; last = s.last.items }
+
+-- nothing came to it
+pub record IsNew (s : Server) : Type 0 where
+  pub talker_is : talker s ≡ new_talker s.session.run
+  pub held : s.held.items ≡ []
+  pub out : s.out.items ≡ []
 
 -- what goes for an item of this kind that is no packet
 abbrev pub sign_of : Kind → Talker → List ℕ

@@ -1,7 +1,7 @@
 // Why a move stops.
 
 /// Why a move stops.
-#[derive(Clone, Copy, Debug, PartialEq, Eq)]
+#[derive(Clone, Copy, PartialEq, Eq)]
 pub enum Halt {
     /// A step was taken, or there is a breakpoint.
     AtPlace,

@@ -46,7 +46,7 @@ impl From<TalkFault> for ServeFault {
 }
 
 // Why an answer can't go.
-#[derive(Clone, Copy, Debug, PartialEq, Eq)]
+#[derive(Clone, Copy, PartialEq, Eq)]
 pub(crate) enum TalkFault {
     Line,
     Memory,

@@ -5,7 +5,7 @@ ghost use Rattle.gdb_wire.specs.Prelude.{packet, IsPartial};
 ghost use Rattle.gdb_session.specs.declared.server.ServeFault.TheVariants as fault;
 ghost use Rattle.gdb_session.specs.declared.server.TalkFault.TheVariants as talk;
 ghost use Rattle.gdb_session.specs.Conversation.{if_acks, IsLast, IsTooLong, Serves, ServesPartly};
-ghost use Rattle.gdb_session.specs.ServerState.{said_by, sign_of, talker, OnlySends, IsAnsweredBy, IsAnsweredPartly};
+ghost use Rattle.gdb_session.specs.ServerState.{said_by, sign_of, talker, OnlySends, IsAnsweredBy, IsAnsweredPartly, IsNew};
 ghost use Rattle.gdb_session.specs.Turns.{Concludes, Continues, Fails, Feeds, Overflows};
 
 use crate::server::{Kind, ServeFault, Server, TalkFault};
@@ -32,23 +32,48 @@ pub fn serve<N: Line, L: Ledger>(
     ensures much { result ≡ Err fault.TooMuch → WhereTold (N.told line.new) (λ talk. 2 ^ 62 < length talk.came) }
     ensures long { result ≡ Err fault.TooLong → WhereTold (N.told line.new) IsTooLong }
 {
-    let mut server = Server {
-        alloc,
-        session: Session::begin(alloc, timeline),
-        held: Vec::new(alloc),
-        last: Vec::new(alloc),
-        text: Vec::new(alloc),
-        out: Vec::new(alloc),
-    };
-    for _ in 0..u64::MAX {
-        if server.take_turn(line, steps)? {
-            return Ok(());
-        }
-    }
-    Err(ServeFault::TooMuch)
+    let mut server = Server::begin(alloc, timeline);
+    server.converse(line, steps)
 }
 
 impl Server {
+    // A server to which nothing came. The timeline is at its first state.
+    fn begin(alloc: Global, timeline: Timeline) -> Server
+        requires { timeline.place ≡ 0 }
+        ensures new { IsNew result }
+        ensures run { result.session.run ≡ timeline.run }
+    {
+        Server {
+            alloc,
+            session: Session::begin(alloc, timeline),
+            held: Vec::new(alloc),
+            last: Vec::new(alloc),
+            text: Vec::new(alloc),
+            out: Vec::new(alloc),
+        }
+    }
+
+    // Answers items until the last one, or until the line ends.
+    fn converse<N: Line, L: Ledger>(
+        &mut self,
+        line: &mut N,
+        steps: &mut Steps<L>,
+    ) -> Result<(), ServeFault>
+        requires { IsNew self.old }
+        ensures serves { OnOk result (Tells (N.told line.old) (N.told line.new) (Serves self.old.session.run)) }
+        ensures partly { OnErr result (Tells (N.told line.old) (N.told line.new) (ServesPartly self.old.session.run)) }
+        ensures fault { result ≡ Err fault.Line → Rose (N.fault_count line.old) (N.fault_count line.new) }
+        ensures much { result ≡ Err fault.TooMuch → WhereTold (N.told line.new) (λ talk. 2 ^ 62 < length talk.came) }
+        ensures long { result ≡ Err fault.TooLong → WhereTold (N.told line.new) IsTooLong }
+    {
+        for _ in 0..u64::MAX {
+            if self.take_turn(line, steps)? {
+                return Ok(());
+            }
+        }
+        Err(ServeFault::TooMuch)
+    }
+
     // Answers the next item, or takes more bytes if none came whole. The result says whether the conversation is over.
     fn take_turn<N: Line, L: Ledger>(
         &mut self,

@@ -1,7 +1,7 @@
 // What comes from gdb.
 
 /// An item on the line from gdb.
-#[derive(Clone, Copy, Debug, PartialEq, Eq)]
+#[derive(Clone, Copy, PartialEq, Eq)]
 pub enum Item<'a> {
     /// A packet with its checksum, and its body, which is still escaped.
     Packet(&'a [u8]),
@@ -16,7 +16,7 @@ pub enum Item<'a> {
 }
 
 /// An item at the front of bytes, and how many of them it takes.
-#[derive(Clone, Copy, Debug, PartialEq, Eq)]
+#[derive(Clone, Copy, PartialEq, Eq)]
 pub struct Found<'a> {
     pub item: Item<'a>,
     pub len: usize,

@@ -25,7 +25,7 @@ pub enum StoreFault {
 }
 
 /// What is kept of a pair: its slot, and the length and the SHA-256 of its bytes.
-#[derive(Clone, Copy, Debug, PartialEq, Eq)]
+#[derive(Clone, Copy, PartialEq, Eq)]
 pub struct Kept {
     pub slot: u32,
     pub length: u32,

@@ -3,7 +3,7 @@ ghost use Rattle.std.specs.Prelude.{ℕ, Option};
 ghost use Rattle.keepers.specs.Claims.{Images, Location};
 
 /// The calls of each kind, including refused ones, and how often one failed. Each count is at most `u64::MAX`.
-#[derive(Clone, Copy, Debug, PartialEq, Eq)]
+#[derive(Clone, Copy, PartialEq, Eq)]
 pub struct CallCounts {
     pub puts: u64,
     pub gets: u64,

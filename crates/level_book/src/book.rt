@@ -47,7 +47,7 @@ impl Name {
 }
 
 /// How many images a level holds at once.
-#[derive(Clone, Copy, Debug, PartialEq, Eq)]
+#[derive(Clone, Copy, PartialEq, Eq)]
 pub enum Slots {
     /// At most this many images.
     Count(u32),

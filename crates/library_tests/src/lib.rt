@@ -38,6 +38,8 @@ mod table_tests;
 #[cfg(test)]
 mod tape_tests;
 #[cfg(test)]
+mod texts;
+#[cfg(test)]
 mod uncalled_tests;
 #[cfg(test)]
 mod undo_tests;

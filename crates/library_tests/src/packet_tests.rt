@@ -1,4 +1,5 @@
 // Packets of a session of gdb 13.1, as values, and replies to them. Memory is ample, so all are read and written.
+use crate::texts::expect;
 use gdb_wire::{
     Found, Item, next_item, push_hex, push_packet, push_unescaped, push_word, read_request,
 };
@@ -67,7 +68,10 @@ fn replies_are_those_that_gdb_was_sent(rt: HostRuntime) -> Result<(), Fail> {
     push_packet(&mut out, b"}")?;
     push_word(&mut out, 0x10218)?;
     push_hex(&mut out, b"goto 60")?;
-    let right = b"$OK#9a$#00$T05watch:110e0;#6c$}]#da18020100676f746f203630";
-    assert_eq!(rt; out.as_slice(), right.as_slice());
+    expect(
+        &rt,
+        &out,
+        b"$OK#9a$#00$T05watch:110e0;#6c$}]#da18020100676f746f203630",
+    );
     Ok(())
 }

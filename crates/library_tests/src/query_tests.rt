@@ -26,7 +26,7 @@ use std::test::Fail;
 const WORDS: [u32; 4] = [0x00100293, 0x00512023, 0x00512023, 0x00228313];
 
 // The questions of these tests.
-#[derive(Clone, Copy, Debug, PartialEq, Eq)]
+#[derive(Clone, Copy, PartialEq, Eq)]
 enum Ask {
     State(u32),
     LastWrite(u32),

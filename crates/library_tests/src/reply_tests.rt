@@ -2,6 +2,7 @@
 ghost use Rattle.std.specs.Prelude.{◌≡◌, ◌%◌};
 ghost use Rattle.rv_machine.specs.Prelude.{IsStatus};
 
+use crate::texts::expect;
 use gdb_replies::{
     Command, push_ending_line, push_help, push_hexadecimal, push_hint, push_memory,
     push_place_line, push_register, push_registers, push_state_line, read_command,
@@ -71,20 +72,26 @@ fn commands_are_what_the_user_means(rt: HostRuntime) -> Result<(), Fail> {
 
 #[test]
 fn commands_are_explained(rt: HostRuntime) -> Result<(), Fail> {
-    let mut out = Vec::new(rt.alloc());
-    push_hint(&mut out)?;
-    let hint = b"monitor when: the state that is shown; monitor goto N: show state N\n";
-    assert_eq!(rt; out.as_slice(), hint.as_slice());
-    let mut out = Vec::new(rt.alloc());
-    push_help(&mut out)?;
-    let help = b"monitor when: the state that is shown
+    let mut hint = Vec::new(rt.alloc());
+    push_hint(&mut hint)?;
+    expect(
+        &rt,
+        &hint,
+        b"monitor when: the state that is shown; monitor goto N: show state N\n",
+    );
+    let mut help = Vec::new(rt.alloc());
+    push_help(&mut help)?;
+    expect(
+        &rt,
+        &help,
+        b"monitor when: the state that is shown
 monitor goto N: show state N
 monitor end: show the last state of the run
 monitor line: the state that is shown, as the line that reversal_cli writes of it
 monitor quiet on, monitor quiet off: don't show, show what the program writes
 monitor help: these lines
-";
-    assert_eq!(rt; out.as_slice(), help.as_slice());
+",
+    );
     Ok(())
 }
 
@@ -154,7 +161,7 @@ reversal: the program stopped at a trap: a store where there is no memory (state
         ),
     ];
     for (n, state, right) in cases {
-        assert_eq!(rt; lines_of(alloc, n, state)?.as_slice(), right);
+        expect(&rt, &lines_of(alloc, n, state)?, right);
     }
     Ok(())
 }
@@ -164,65 +171,81 @@ fn numbers_have_no_zeros_before_them(rt: HostRuntime) -> Result<(), Fail> {
     let mut out = Vec::new(rt.alloc());
     push_hexadecimal(&mut out, 0)?;
     push_hexadecimal(&mut out, 0xbffffff0)?;
-    let right = b"0bffffff0";
-    assert_eq!(rt; out.as_slice(), right.as_slice());
+    expect(&rt, &out, b"0bffffff0");
     Ok(())
 }
 
 #[test]
 fn the_line_of_a_state_ends_with_its_digest(rt: HostRuntime) -> Result<(), Fail> {
-    let alloc = rt.alloc();
-    let mut out = Vec::new(alloc);
-    push_state_line(&mut out, 60, &state_at(alloc, 0x10014, Status::Running)?)?;
-    let right = b"60 00010014 0001000c bffffff0 000118a0 \
+    let state = state_at(rt.alloc(), 0x10014, Status::Running)?;
+    let mut out = Vec::new(rt.alloc());
+    push_state_line(&mut out, 60, &state)?;
+    expect(
+        &rt,
+        &out,
+        b"60 00010014 0001000c bffffff0 000118a0 \
 00000000 00000000 00000000 00000000 00000000 00000000 00000000 00000000 00000000 00000000 \
 00000000 00000000 00000000 00000000 00000000 00000000 00000000 00000000 00000000 00000000 \
 00000000 00000000 00000000 00000000 00000000 00000000 00000000 00000000 \
-run 0:0 0 c3b91b8572ec70bc57a2cb869362d61545e114d05eb57af5990c50480f003ca4\n";
-    assert_eq!(rt; out.as_slice(), right.as_slice());
+run 0:0 0 c3b91b8572ec70bc57a2cb869362d61545e114d05eb57af5990c50480f003ca4\n",
+    );
     Ok(())
+}
+
+// Three registers: sp, pc, and one that is not there.
+fn three_registers(alloc: Global, state: &State) -> Result<Vec<u8>, AllocError> {
+    let mut out = Vec::new(alloc);
+    for number in [2, 32, 33] {
+        push_register(&mut out, state, number)?;
+    }
+    Ok(out)
 }
 
 #[test]
 fn registers_are_shown_with_their_lowest_byte_first(rt: HostRuntime) -> Result<(), Fail> {
-    let alloc = rt.alloc();
-    let mut out = Vec::new(alloc);
-    let state = state_at(alloc, 0x10014, Status::Running)?;
+    let state = state_at(rt.alloc(), 0x10014, Status::Running)?;
+    let mut out = Vec::new(rt.alloc());
     push_registers(&mut out, &state)?;
-    let right = b"000000000c000100f0ffffbfa0180100\
+    expect(
+        &rt,
+        &out,
+        b"000000000c000100f0ffffbfa0180100\
 00000000000000000000000000000000000000000000000000000000\
 00000000000000000000000000000000000000000000000000000000\
 00000000000000000000000000000000000000000000000000000000\
 00000000000000000000000000000000000000000000000000000000\
-14000100";
-    assert_eq!(rt; out.as_slice(), right.as_slice());
-    let mut out = Vec::new(alloc);
-    push_register(&mut out, &state, 2)?;
-    push_register(&mut out, &state, 32)?;
-    push_register(&mut out, &state, 33)?;
-    let right = b"f0ffffbf14000100E01";
-    assert_eq!(rt; out.as_slice(), right.as_slice());
+14000100",
+    );
+    expect(
+        &rt,
+        &three_registers(rt.alloc(), &state)?,
+        b"f0ffffbf14000100E01",
+    );
     Ok(())
+}
+
+// Places and lengths of memory, and what is shown of it.
+const SHOWN: [(u32, u32, &[u8]); 5] = [
+    (0x10000, 16, b"972100009381018aef00c0009308d005"),
+    (0x12ffe, 4, b"0000"),
+    (0xfffffffe, 4, b"33445566"),
+    (0x13000, 4, b"E01"),
+    (0x10000, 0, b"E01"),
+];
+
+// What is shown of memory.
+fn shown(alloc: Global, state: &State, at: u32, len: u32) -> Result<Vec<u8>, AllocError> {
+    let mut out = Vec::new(alloc);
+    push_memory(&mut out, state, at, len)?;
+    Ok(out)
 }
 
 #[test]
 fn memory_is_shown_up_to_its_end(rt: HostRuntime) -> Result<(), Fail> {
-    let alloc = rt.alloc();
-    let mut out = Vec::new(alloc);
-    let state = state_at(alloc, 0x10014, Status::Running)?;
-    push_memory(&mut out, &state, 0x10000, 16)?;
-    out.push(b' ')?;
-    push_memory(&mut out, &state, 0x12ffe, 4)?;
-    out.push(b' ')?;
-    push_memory(&mut out, &state, 0xfffffffe, 4)?;
-    out.push(b' ')?;
-    push_memory(&mut out, &state, 0x13000, 4)?;
-    out.push(b' ')?;
-    push_memory(&mut out, &state, 0x10000, 0)?;
-    let right = b"972100009381018aef00c0009308d005 0000 33445566 E01 E01";
-    assert_eq!(rt; out.as_slice(), right.as_slice());
-    let mut out = Vec::new(alloc);
-    push_memory(&mut out, &state, 0x10000, 9000)?;
-    assert_eq!(rt; out.len(), 16384);
+    let state = state_at(rt.alloc(), 0x10014, Status::Running)?;
+    for (at, len, right) in SHOWN {
+        expect(&rt, &shown(rt.alloc(), &state, at, len)?, right);
+    }
+    assert_eq!(rt; shown(rt.alloc(), &state, 0x10000, 9000)?.len(), 16384);
     Ok(())
 }

@@ -21,7 +21,7 @@ pub struct Change {
 }
 
 /// A kind of call that may be made to fail.
-#[derive(Clone, Copy, Debug, PartialEq, Eq)]
+#[derive(Clone, Copy, PartialEq, Eq)]
 pub enum DiskOp {
     /// To read a whole file.
     ReadWhole,

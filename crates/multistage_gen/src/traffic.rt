@@ -10,7 +10,7 @@ use revolve_gen::StackStep;
 use std::alloc::{AllocError, Global};
 
 /// How often the images at a place of the stack are written and read.
-#[derive(Clone, Copy, Debug, PartialEq, Eq)]
+#[derive(Clone, Copy, PartialEq, Eq)]
 pub struct PlaceTraffic {
     pub writes: u64,
     pub reads: u64,

@@ -2,7 +2,7 @@
 ghost use Rattle.std.specs.Prelude.{◌≡◌};
 
 /// What a Forward keeps of the state at its `from`.
-#[derive(Clone, Copy, Debug, PartialEq, Eq)]
+#[derive(Clone, Copy, PartialEq, Eq)]
 pub enum Keep {
     /// Keeps nothing of it.
     Nothing,
@@ -13,7 +13,7 @@ pub enum Keep {
 }
 
 /// Where a Copy or a Move takes an image.
-#[derive(Clone, Copy, Debug, PartialEq, Eq)]
+#[derive(Clone, Copy, PartialEq, Eq)]
 pub enum Dest {
     /// Into the work state.
     Work,
@@ -22,7 +22,7 @@ pub enum Dest {
 }
 
 /// One action of a schedule. Positions are numbers of states, counted from 0.
-#[derive(Clone, Copy, Debug, PartialEq, Eq)]
+#[derive(Clone, Copy, PartialEq, Eq)]
 pub enum Action {
     /// Steps the work state from `from` to `to`.
     Forward { from: u32, to: u32, keep: Keep },

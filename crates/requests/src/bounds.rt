@@ -11,7 +11,7 @@ use endings::Outcome;
 use plan_types::{MOST_SLOTS, MOST_STEPS};
 
 /// The least and greatest accepted values of a number, and the number of its rule.
-#[derive(Clone, Copy, Debug)]
+#[derive(Clone, Copy)]
 pub struct Limit {
     pub least: u64,
     pub greatest: u64,
@@ -103,7 +103,7 @@ pub(crate) fn question_bound(last: u64, question: Question) -> Bounded
 }
 
 /// A number of a request, its least and greatest accepted values, and the number of its rule.
-#[derive(Clone, Copy, Debug)]
+#[derive(Clone, Copy)]
 pub struct Bounded {
     pub number: u64,
     pub least: u64,

@@ -6,7 +6,7 @@ ghost use Rattle.requests.specs.InputOutcome.{input_of};
 use crate::inputs::Input;
 
 /// What an input is read as.
-#[derive(Clone, Copy, Debug, PartialEq, Eq)]
+#[derive(Clone, Copy, PartialEq, Eq)]
 pub enum InputKind {
     Program,
     Journal,

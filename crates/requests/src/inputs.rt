@@ -14,7 +14,7 @@ use keepers::{InputFault, Inputs, Whole};
 use std::alloc::Global;
 
 /// An input that is wanted: what it is read as, and its name.
-#[derive(Clone, Copy, Debug)]
+#[derive(Clone, Copy)]
 pub struct Input<'a> {
     pub kind: InputKind,
     pub name: &'a [u8],

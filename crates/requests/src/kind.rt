@@ -1,6 +1,6 @@
 // The kinds of plans that have a name.
 /// Which list a plan has.
-#[derive(Clone, Copy, Debug)]
+#[derive(Clone, Copy)]
 pub enum PlanKind {
     /// The list of Revolve.
     Revolve,

@@ -10,7 +10,7 @@ use line_texts::number_at;
 use std::marker::Model;
 
 /// An option.
-#[derive(Clone, Copy, Debug)]
+#[derive(Clone, Copy)]
 pub enum Choice<'a> {
     /// The program is raw words.
     Raw,
@@ -60,7 +60,7 @@ impl Choice<'_> {
 }
 
 /// Options in the order of the words. They take no memory: they are the words, and are read again for each question.
-#[derive(Debug, Drop)]
+#[derive(Drop)]
 pub struct Options<'a> {
     words: &'a [Vec<u8>],
 }

@@ -1,7 +1,7 @@
 // Questions about a run.
 
 /// A question about a run.
-#[derive(Clone, Copy, Debug)]
+#[derive(Clone, Copy)]
 pub enum Question {
     /// The state with this number.
     State(u64),

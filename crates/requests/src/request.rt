@@ -19,14 +19,14 @@ use crate::schedule::Schedule;
 use endings::Outcome;
 
 /// What the words ask for.
-#[derive(Debug, Drop)]
+#[derive(Drop)]
 pub struct Request<'a> {
     pub options: Options<'a>,
     pub command: Command<'a>,
 }
 
 /// A command, with the names of its inputs and its numbers.
-#[derive(Clone, Copy, Debug)]
+#[derive(Clone, Copy)]
 pub enum Command<'a> {
     /// To run a program backward.
     Run(RunBackward<'a>),
@@ -55,7 +55,7 @@ pub enum Command<'a> {
 }
 
 /// A run of a program that a list goes over, of so many steps. Without a journal there is no recorded input.
-#[derive(Clone, Copy, Debug)]
+#[derive(Clone, Copy)]
 pub struct Run<'a> {
     pub program: &'a [u8],
     pub journal: Option<&'a [u8]>,
@@ -64,14 +64,14 @@ pub struct Run<'a> {
 }
 
 /// To run a program backward by a schedule.
-#[derive(Clone, Copy, Debug)]
+#[derive(Clone, Copy)]
 pub struct RunBackward<'a> {
     pub run: Run<'a>,
     pub schedule: Schedule<'a>,
 }
 
 /// To write a list of this kind for a book and so many steps.
-#[derive(Clone, Copy, Debug)]
+#[derive(Clone, Copy)]
 pub struct PlanFor<'a> {
     pub kind: PlanKind,
     pub book: &'a [u8],
@@ -79,7 +79,7 @@ pub struct PlanFor<'a> {
 }
 
 /// To write the periodic list for a book and so many steps. The slow level gets an image every `period` steps.
-#[derive(Clone, Copy, Debug)]
+#[derive(Clone, Copy)]
 pub struct PlanPeriodic<'a> {
     pub book: &'a [u8],
     pub steps: u64,
@@ -87,7 +87,7 @@ pub struct PlanPeriodic<'a> {
 }
 
 /// A schedule for a book and so many steps: to judge it, or to print what it costs.
-#[derive(Clone, Copy, Debug)]
+#[derive(Clone, Copy)]
 pub struct ScheduleFor<'a> {
     pub book: &'a [u8],
     pub schedule: &'a [u8],
@@ -95,7 +95,7 @@ pub struct ScheduleFor<'a> {
 }
 
 /// To show by a certificate that a schedule is the least, for a book and so many steps.
-#[derive(Clone, Copy, Debug)]
+#[derive(Clone, Copy)]
 pub struct Certify<'a> {
     pub book: &'a [u8],
     pub schedule: &'a [u8],
@@ -104,7 +104,7 @@ pub struct Certify<'a> {
 }
 
 /// To ask something of a run, by the schedule with this name.
-#[derive(Clone, Copy, Debug)]
+#[derive(Clone, Copy)]
 pub struct Ask<'a> {
     pub question: Question,
     pub run: Run<'a>,
@@ -112,7 +112,7 @@ pub struct Ask<'a> {
 }
 
 /// To find the last state of a run over so many steps whose image has this SHA-256.
-#[derive(Clone, Copy, Debug)]
+#[derive(Clone, Copy)]
 pub struct Find<'a> {
     pub program: &'a [u8],
     pub journal: Option<&'a [u8]>,
@@ -121,19 +121,19 @@ pub struct Find<'a> {
 }
 
 /// To write the instruction words that a source means.
-#[derive(Clone, Copy, Debug)]
+#[derive(Clone, Copy)]
 pub struct Asm<'a> {
     pub source: &'a [u8],
 }
 
 /// To write the line of each word of a raw program.
-#[derive(Clone, Copy, Debug)]
+#[derive(Clone, Copy)]
 pub struct Disasm<'a> {
     pub program: &'a [u8],
 }
 
 /// To move about in a run of so many instructions by the orders of a script. The levels of a book keep images at marks.
-#[derive(Clone, Copy, Debug)]
+#[derive(Clone, Copy)]
 pub struct Console<'a> {
     pub program: &'a [u8],
     pub journal: Option<&'a [u8]>,
@@ -143,7 +143,7 @@ pub struct Console<'a> {
 }
 
 /// To run a program made from a number backward, by Revolve's list for so many steps and slots.
-#[derive(Clone, Copy, Debug)]
+#[derive(Clone, Copy)]
 pub struct Demo {
     pub number: u64,
     pub steps: u64,

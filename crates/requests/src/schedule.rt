@@ -1,7 +1,7 @@
 // How the list of a backward run is chosen.
 
 /// The schedule of a run.
-#[derive(Clone, Copy, Debug)]
+#[derive(Clone, Copy)]
 pub enum Schedule<'a> {
     /// The one of the input with this name.
     Named(&'a [u8]),

@@ -56,7 +56,7 @@ use Rattle.reversal.specs.InputMeaning.{HasBookFault, IsStartOf, HasProgramFault
 use Rattle.reversal.specs.CommandCost.{DecidesCost}
 use Rattle.reversal.specs.CommandCheck.{DecidesCheck}
 use Rattle.reversal.specs.CommandCertify.{DecidesCertify, least_line}
-use Rattle.reversal.specs.JobModel.{IsRefusal, IsUnjudged, IsUnweighed}
+use Rattle.reversal.specs.JobModel.{IsRefusal, IsUnbegun, IsUnjudged, IsUnweighed}
 use Rattle.reversal.proofs.Refusals.{IsRefusing}
 use Rattle.cert_text.specs.declared.certificate.Certificate.{Certificate}
 use Rattle.cert_text.specs.Meaning.{IsCertificateText}
@@ -337,6 +337,25 @@ decided_refusal options command l slots e h = elim (comes_to (table_of options c
 
 -- ---- the lines of a run, and of a judgement
 
+module _ (options : List Choice) (program : List ℕ) (journal : Option (List ℕ)) (e : Outcome) where
+  pub unbegun_by_program : IsRefusal (HasProgramFault (says_raw options) (stack_pages options) program) bad_program e → IsUnbegun options program journal e
+  unbegun_by_program h = read_refuses (IsStartOf (says_raw options) (stack_pages options) program) (HasProgramFault (says_raw options) (stack_pages options) program) bad_program e _ h
+
+  pub unbegun_by_journal : (start : MachineState) → IsStartOf (says_raw options) (stack_pages options) program start → IsRefusal (HasJournalFault journal) bad_journal e → IsUnbegun options program journal e
+  unbegun_by_journal start is_start h =
+      read_passes (IsStartOf (says_raw options) (stack_pages options) program) (HasProgramFault (says_raw options) (stack_pages options) program) bad_program e _ start is_start
+      (read_refuses (AreItemsOf journal) (HasJournalFault journal) bad_journal e _ h)
+
+  -- such a refusal is one whatever the lines below say
+  pub unbegun_refuses : (below : MachineState → List (List ℕ) → Table) → IsUnbegun options program journal e → (e ≡ no_memory) ⊎ Decided (over_program options program journal below) (refuse e)
+  unbegun_refuses below h = elim h [
+    | inl memory ↦ inl memory
+    | inr refused ↦ inr (elim refused [
+      | inl fault ↦ inl fault
+      | inr read ↦ inr (read.0, read.1, elim read.2 [ inl fault ↦ inl fault | inr items ↦ absurd items.2 ])
+    ])
+  ]
+
 -- the list of a run may be made, where it is
 abbrev pub CanBeMade : ℕ → BookCosts → Option (List ℕ) → Type 0
 CanBeMade steps b None = HasPlan steps (total_room b steps)
@@ -381,17 +400,13 @@ module _ (make : Run → Job) (options : List Choice) (steps : ℕ) (program : L
         behind_plans : (e ≡ no_memory) ⊎ Decided (program_lines b) (refuse e) → RefusedOver e
         behind_plans h = over_behind_keepers (elim h [ inl memory ↦ inl memory | inr below ↦ inr (made_decides steps b schedule (program_lines b) (refuse e) has below) ])
 
-        pub over_by_program : IsRefusal (HasProgramFault (says_raw options) (stack_pages options) program) bad_program e → RefusedOver e
-        over_by_program h =
-            behind_plans (read_refuses (IsStartOf (says_raw options) (stack_pages options) program) (HasProgramFault (says_raw options) (stack_pages options) program) bad_program e _ h)
+        pub over_by_beginning : IsUnbegun options program journal e → RefusedOver e
+        over_by_beginning h = behind_plans (unbegun_refuses options program journal e (λ start items. over_list steps b schedule (last_lines b start items)) h)
 
         module _ (start : MachineState) (is_start : IsStartOf (says_raw options) (stack_pages options) program start) where
           behind_program : (e ≡ no_memory) ⊎ Read (AreItemsOf journal) (HasJournalFault journal) bad_journal (refuse e) (λ items. Decided (over_list steps b schedule (last_lines b start items)) (refuse e)) → RefusedOver e
           behind_program h =
               behind_plans (read_passes (IsStartOf (says_raw options) (stack_pages options) program) (HasProgramFault (says_raw options) (stack_pages options) program) bad_program e _ start is_start h)
-
-          pub over_by_journal : IsRefusal (HasJournalFault journal) bad_journal e → RefusedOver e
-          over_by_journal h = behind_program (read_refuses (AreItemsOf journal) (HasJournalFault journal) bad_journal e _ h)
 
           pub over_by_list : (items : List (List ℕ)) → AreItemsOf journal items → (e ≡ no_memory) ⊎ Decided (over_list steps b schedule (last_lines b start items)) (refuse e) → RefusedOver e
           over_by_list items are_items h = behind_program (read_passes (AreItemsOf journal) (HasJournalFault journal) bad_journal e _ items are_items h)
@@ -433,22 +448,14 @@ module _ (options : List Choice) (steps : ℕ) (program : List ℕ) (journal : O
         behind_slots : (Below : Type 0) → (e ≡ no_memory) ⊎ Below → (e ≡ no_memory) ⊎ Need (1 ≤ total_room b (max steps 1)) (no_plan steps (total_room b steps) 1) (refuse e) Below
         behind_slots Below h = elim h [ inl memory ↦ inl memory | inr below ↦ inr (inr (slots, below)) ]
 
-        pub console_by_program : IsRefusal (HasProgramFault (says_raw options) (stack_pages options) program) bad_program e → Refuses e
-        console_by_program h =
+        pub console_by_beginning : IsUnbegun options program journal e → Refuses e
+        console_by_beginning h =
             read_passes (IsBookText book) (HasBookFault book) bad_book e _ b is_book
             (keep_passes (max steps 1) (slots_of b) counts e _ room
             (behind_slots _
-            (read_refuses (IsStartOf (says_raw options) (stack_pages options) program) (HasProgramFault (says_raw options) (stack_pages options) program) bad_program e _ h)))
+            (unbegun_refuses options program journal e (λ start items. reads (IsScript steps script) (ScriptFirst steps script) bad_script (λ orders. does (console start items (record { slots = slots_of b; count = steps }) orders))) h)))
 
         module _ (start : MachineState) (is_start : IsStartOf (says_raw options) (stack_pages options) program start) where
-          pub console_by_journal : IsRefusal (HasJournalFault journal) bad_journal e → Refuses e
-          console_by_journal h =
-              read_passes (IsBookText book) (HasBookFault book) bad_book e _ b is_book
-              (keep_passes (max steps 1) (slots_of b) counts e _ room
-              (behind_slots _
-              (read_passes (IsStartOf (says_raw options) (stack_pages options) program) (HasProgramFault (says_raw options) (stack_pages options) program) bad_program e _ start is_start
-              (read_refuses (AreItemsOf journal) (HasJournalFault journal) bad_journal e _ h))))
-
           pub console_by_script : (items : List (List ℕ)) → AreItemsOf journal items → IsRefusal (ScriptFirst steps script) bad_script e → Refuses e
           console_by_script items are_items h =
               read_passes (IsBookText book) (HasBookFault book) bad_book e _ b is_book

@@ -35,7 +35,7 @@ use Rattle.reverse_runner.proofs.StateOrder.{valid_hands}
 use Rattle.reverse_runner.proofs.StatesInvariant.{TapeIs}
 use Rattle.reversal.specs.declared.demo.Demonstrated.{Demonstrated}
 use Rattle.reversal.specs.declared.line_hasher.LineHasher.{LineHasher}
-use Rattle.reversal.specs.DemoStates.{IsAtStart, BreaksWithin}
+use Rattle.reversal.specs.DemoStates.{IsAtStart, BreaksWithin, IsOneKeeper}
 use Rattle.reversal.specs.Output.{line_of, lines_down}
 use Rattle.reversal.proofs.ShownStates.{Shows, hands_of_run, handed_more}
 use Rattle.reversal.proofs.Progress.{one_times}
@@ -53,22 +53,22 @@ one_tells steps slots keeper zero within = refl
 one_tells steps slots keeper (suc n) within = absurd (omega (arith, within))
 
 -- a session over one keeper in memory
-pub at_start : (d : Demonstrated) (first : MachineState) (steps slots : ℕ) (before : List KeeperState) (keeper : KeeperState) → IsMachineState first → HasPlan steps (total_room (plain slots) steps) →
-    d.session ≡ begun first [] 1 steps (slots_of (plain slots)) → d.actions ≡ revolve_list steps (plain slots) → before ≡ [] → d.keepers.items ≡ before ++ keeper ∷ [] → keeper.slots ≡ slots →
+pub at_start : (d : Demonstrated) (first : MachineState) (steps slots : ℕ) → IsMachineState first → HasPlan steps (total_room (plain slots) steps) →
+    d.session ≡ begun first [] 1 steps (slots_of (plain slots)) → d.actions ≡ revolve_list steps (plain slots) → IsOneKeeper slots d.keepers.items →
     ((told : ℕ → Option Images) → ((k : ℕ) → k < length (slots_of (plain slots)) → IsSome (told k)) → StandsAt first d.session told) → IsAtStart d
-at_start d first steps slots before keeper good plan session actions none added room stands =
-    let keepers : d.keepers.items ≡ keeper ∷ [] = added ∙ ap (λ l. l ++ keeper ∷ []) none in
+at_start d first steps slots good plan session actions one stands =
+    let keeper = one.keeper in
     record {
       state = (let P : SessionState → Type 0 = λ s. IsMachineState s.work in subst P (sym session) good);
       begun_so = session ∙ sym (ap (λ (s : SessionState). begun s.work s.journal 1 s.situation.steps s.situation.slots) session);
       stands =
           (let P : SessionState → Type 0 = λ s. StandsAt s.work d.session (by_number None (λ (k : KeeperState). Some k.images) d.keepers.items) in
           let Q : List KeeperState → Type 0 = λ ks. StandsAt first d.session (by_number None (λ (k : KeeperState). Some k.images) ks) in
-          subst P (sym session) (subst Q (sym keepers) (stands (by_number None (λ (k : KeeperState). Some k.images) (keeper ∷ [])) (one_tells steps slots keeper))));
+          subst P (sym session) (subst Q (sym one.one) (stands (by_number None (λ (k : KeeperState). Some k.images) (keeper ∷ [])) (one_tells steps slots keeper))));
       room =
           (let P : SessionState → Type 0 = λ s. HaveRoom s.situation.steps s.situation.slots (map (λ (k : KeeperState). k.slots) d.keepers.items) in
           let Q : List KeeperState → Type 0 = λ ks. HaveRoom steps (slots_of (plain slots)) (map (λ (k : KeeperState). k.slots) ks) in
-          subst P (sym session) (subst Q (sym keepers) (room_for_one steps slots keeper room)));
+          subst P (sym session) (subst Q (sym one.one) (room_for_one steps slots keeper one.slots_of_it)));
       valid =
           (let P : SessionState → Type 0 = λ s. Valid s.situation.steps s.situation.slots d.actions in
           let Q : List Action → Type 0 = λ l. Valid steps (slots_of (plain slots)) l in

@@ -51,7 +51,7 @@ use Rattle.reversal.specs.Job.{Run, Job, perform, ask, seek, write, console, dem
 use Rattle.reversal.specs.Moment.{Moment, moment, AllTell}
 use Rattle.reversal.specs.Course.{Course, EndsShowing, HaltsShowing}
 use Rattle.requests.specs.Loaded.{Loaded}
-use Rattle.reversal.specs.InputMeaning.{in_units, over_valid, DecidesOver}
+use Rattle.reversal.specs.InputMeaning.{in_units, over_valid, over_program, DecidesOver}
 use Rattle.reversal.specs.Decision.{course_of, KeepsOthers, HaveRoomsFor}
 use Rattle.reverse_runner.specs.declared.fault.RunFault.{RunFault}
 use Rattle.reverse_runner.specs.declared.fault.RunFault.TheVariants as fault
@@ -194,6 +194,10 @@ pub record RunFits (options : List Choice) (count : ℕ) : Type 0 where
 -- why bytes aren't read: their fault, which ends the call, or a lack of memory
 abbrev pub IsRefusal : {F : Type 0} → (F → Type 0) → (F → Outcome) → Outcome → Type 0
 IsRefusal {F} HasFault ended e = (e ≡ no_memory) ⊎ ((fault : F) × HasFault fault × (e ≡ ended fault))
+
+-- why bytes aren't a program with its recorded input: a refusal, or no memory
+abbrev pub IsUnbegun : List Choice → List ℕ → Option (List ℕ) → Outcome → Type 0
+IsUnbegun options program journal e = (e ≡ no_memory) ⊎ Decided (over_program options program journal (λ start items. ends (λ d. ⊥))) (refuse e)
 
 -- why the bytes of a schedule aren't a valid list over the book that others mean: a refusal, or no memory
 abbrev pub IsUnjudged : ℕ → List ℕ → List ℕ → Outcome → Type 0

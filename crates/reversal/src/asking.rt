@@ -1,9 +1,11 @@
 // A question about a run, and how it is answered.
 ghost use Rattle.std.specs.Prelude.{◌≡◌, ◌≢◌, ◌≤◌, ◌<◌, ◌+◌, ◌*◌, IfOk, IfErr};
+ghost use Rattle.plan_types.specs.declared.limits.TheConstants.{MOST_STEPS};
 ghost use Rattle.level_book.specs.Prelude.{slots_of};
 ghost use Rattle.reverse_runner.specs.Prelude.{HaveRoom, slot_counts};
 ghost use Rattle.reverse_runner.specs.declared.fault.RunFault.TheVariants as fault_is;
 ghost use Rattle.requests.specs.declared.question.Question.TheVariants as about;
+ghost use Rattle.requests.specs.Prelude.{question_bound, IsWithin};
 ghost use Rattle.reversal.specs.Prelude.{ask, run_over, run_from, CanBeAsked, WritesAnswer, Does, DoesBegun, IsBegun, fault_ending};
 
 use crate::job::fault_ending;
@@ -64,18 +66,34 @@ impl Asking {
         let Ok(mut session) = Session::begin(alloc, start, journal, steps, unit, book) else {
             return Outcome::Memory;
         };
-        match question {
-            Question::State(place) => {
-                show_state(&mut session, &list, keepers, place as u32, out, counter)
-            }
-            Question::LastWrite(address) => {
-                let found = last_write(&mut session, &list, keepers, address, counter);
-                tell(found, &session, out)
-            }
-            Question::LastChange(address) => {
-                let found = last_change(&mut session, &list, keepers, address, counter);
-                tell(found, &session, out)
-            }
+        answer_from(&mut session, &list, keepers, question, out, counter)
+    }
+}
+
+// Answers a question by a session that has just begun.
+fn answer_from<K: Keeper, O: Sink, L: Ledger>(
+    session: &mut Session,
+    list: &[Action],
+    keepers: &mut Vec<K>,
+    question: Question,
+    out: &mut O,
+    counter: &mut Steps<L>,
+) -> Outcome
+    requires begun { IsBegun session.old list.now (slot_counts K.Storage keepers.old.items) }
+    requires small { session.old.unit * session.old.situation.steps ≤ MOST_STEPS }
+    requires within { IsWithin (question_bound (session.old.unit * session.old.situation.steps) question) }
+    ensures { DoesBegun O.Sink K.Storage (ask question (run_from session.old list.now)) result out.old out.new
+        keepers.old.items keepers.new.items counter.old counter.new }
+{
+    match question {
+        Question::State(place) => show_state(session, list, keepers, place as u32, out, counter),
+        Question::LastWrite(address) => {
+            let found = last_write(session, list, keepers, address, counter);
+            tell(found, session, out)
+        }
+        Question::LastChange(address) => {
+            let found = last_change(session, list, keepers, address, counter);
+            tell(found, session, out)
         }
     }
 }

@@ -1,23 +1,24 @@
 // Moving about in a run by the orders of a script.
-ghost use Rattle.std.specs.Prelude.{◌≡◌, ◌<◌, ◌≤◌, ◌^◌, ℕ, max, length, slice_get, Some, IfOk, IfErr, OnOk};
+ghost use Rattle.std.specs.Prelude.{◌≡◌, ◌≢◌, ◌<◌, ◌≤◌, ◌^◌, ℕ, max, length, slice_get, Some, IfOk, IfErr, OnOk};
 ghost use Rattle.std.specs.Vec.{vec_len};
 ghost use Rattle.plan_types.specs.declared.limits.TheConstants.{MOST_STEPS};
 ghost use Rattle.level_book.specs.Prelude.{slots_of, total_room};
 ghost use Rattle.reverse_runner.specs.Prelude.{HaveRoom, slot_counts};
+ghost use Rattle.reverse_runner.specs.declared.fault.RunFault.TheVariants as fault_is;
 ghost use Rattle.reverse_console.specs.declared.order.Order.{Order as AnOrder};
 ghost use Rattle.reverse_console.specs.Prelude.{IsOrder, IsScript, HasFirstFault};
-ghost use Rattle.endings.specs.Prelude.{no_plan, bad_script};
+ghost use Rattle.endings.specs.Prelude.{done, no_plan, bad_script};
 ghost use Rattle.requests.specs.Prelude.{stack_pages, IsWithinLimits, contents_of};
-ghost use Rattle.reversal.specs.Prelude.{DecidesConsole, moves, CanAnswerOrders, IsRefusal, Does, text_of, IsDecided};
+ghost use Rattle.reversal.specs.Prelude.{DecidesConsole, moves, fault_ending, CanAnswerOrders, IsRefusal, Does, text_of, IsDecided};
 
-use crate::decision::{book_in, journal_in, keep, start_of};
+use crate::decision::{beginning_of, book_in, keep};
 use crate::job::{Job, fault_ending};
 use endings::Outcome;
 use keepers::{Keeper, Sink};
 use level_book::Book;
 use requests::{Loaded, Options};
 use reverse_console::laws::the_marks_have_levels;
-use reverse_console::{Console, MarkedRun, Order, answer_all, read_orders};
+use reverse_console::{Console, MarkedRun, Order, Stop, answer_all, read_orders};
 use rv_machine::Steps;
 use std::alloc::Global;
 use std::sync::ledger::Ledger;
@@ -50,12 +51,21 @@ impl ConsoleRun {
             Err(fault) => fault_ending(0, fault),
             Ok(mut console) => {
                 console.sees_its_run();
-                match answer_all(&mut console, &orders, keepers, out, counter) {
-                    Ok(()) => Outcome::Done,
-                    Err(stop) => fault_ending(u64::from(stop.order), stop.fault),
-                }
+                script_ending(answer_all(&mut console, &orders, keepers, out, counter))
             }
         }
+    }
+}
+
+// How a call ends whose orders were answered, or one was refused.
+fn script_ending(answered: Result<(), Stop>) -> Outcome
+    requires { IfErr answered (λ stop. stop.fault ≢ fault_is.Ended) }
+    ensures done { OnOk answered (result ≡ done) }
+    ensures refused { IfErr answered (λ stop. result ≡ fault_ending stop.order stop.fault) }
+{
+    match answered {
+        Ok(()) => Outcome::Done,
+        Err(stop) => fault_ending(u64::from(stop.order), stop.fault),
     }
 }
 
@@ -77,8 +87,7 @@ pub fn decide_console(
     let book = book_in(alloc, &loaded.book)?;
     keep(steps.max(1), &book, counts)?;
     find_slot(steps, &book)?;
-    let start = start_of(alloc, options, &loaded.program)?;
-    let journal = journal_in(alloc, loaded.journal.take())?;
+    let (start, journal) = beginning_of(alloc, options, &loaded.program, loaded.journal.take())?;
     let orders = orders_in(alloc, &loaded.script, steps)?;
     let run = MarkedRun {
         start,

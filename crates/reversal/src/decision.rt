@@ -7,7 +7,7 @@ ghost use Rattle.action_text.specs.Prelude.{IsSchedule, HasFirstFault};
 ghost use Rattle.reverse_runner.specs.Prelude.{HaveRoom};
 ghost use Rattle.endings.specs.Prelude.{no_memory, bad_program, bad_journal, bad_book, bad_text, invalid};
 ghost use Rattle.requests.specs.Prelude.{run as run_command, ask as ask_command, says_raw, stack_pages, worker_count, unit_count, question_bound, numbers, IsWithin, request_of, as_run_backward, as_ask, IsWithinLimits, contents_of};
-ghost use Rattle.reversal.specs.Prelude.{refuse, Keep, HasBookFault, IsStartOf, HasProgramFault, AreItemsOf, HasJournalFault, DecidesLoaded, DecidesCheck, perform, run_over, job_of, IsOver, CanBeDone, HasWorkers, KeepersHaveRoom, IsRefusal, IsUnjudged, text_of, IsDecided, IsDecidedOver, RunFits};
+ghost use Rattle.reversal.specs.Prelude.{refuse, Keep, HasBookFault, IsStartOf, HasProgramFault, AreItemsOf, HasJournalFault, DecidesLoaded, DecidesCheck, perform, run_over, job_of, IsOver, CanBeDone, HasWorkers, KeepersHaveRoom, IsRefusal, IsUnbegun, IsUnjudged, text_of, IsDecided, IsDecidedOver, RunFits};
 
 use crate::actions::{Actions, Listed};
 use crate::asking::{Asking, Over};
@@ -158,8 +158,7 @@ fn decide_over(
 {
     let book = book_in(alloc, &loaded.book)?;
     keep(steps, &book, counts)?;
-    let start = start_of(alloc, options, &loaded.program)?;
-    let journal = journal_in(alloc, loaded.journal.take())?;
+    let (start, journal) = beginning_of(alloc, options, &loaded.program, loaded.journal.take())?;
     let list = list_in(alloc, &loaded.schedule, &book)?;
     judge(alloc, &list, steps, &book)?;
     Ok(Over {
@@ -242,8 +241,25 @@ pub(crate) fn keep(steps: u32, book: &Book, counts: &[u32]) -> Result<(), Outcom
     Ok(())
 }
 
+// The start state of a program, and its recorded input.
+pub(crate) fn beginning_of(
+    alloc: Global,
+    options: &Options,
+    program: &[u8],
+    journal: Option<Vec<u8>>,
+) -> Result<(State, Journal), Outcome>
+    requires { (1 ≤ stack_pages options.now) × (stack_pages options.now ≤ 1024) }
+    ensures start { IfOk result (λ found. IsStartOf (says_raw options.now) (stack_pages options.now) program.now found.0) }
+    ensures items { IfOk result (λ found. AreItemsOf (text_of journal) found.1) }
+    ensures refused { IfErr result (IsUnbegun options.now program.now (text_of journal)) }
+{
+    let start = start_of(alloc, options, program)?;
+    let journal = journal_in(alloc, journal)?;
+    Ok((start, journal))
+}
+
 // The start state of a program.
-pub(crate) fn start_of(alloc: Global, options: &Options, bytes: &[u8]) -> Result<State, Outcome>
+fn start_of(alloc: Global, options: &Options, bytes: &[u8]) -> Result<State, Outcome>
     requires { (1 ≤ stack_pages options.now) × (stack_pages options.now ≤ 1024) }
     ensures found { IfOk result (IsStartOf (says_raw options.now) (stack_pages options.now) bytes.now) }
     ensures refused { IfErr result (IsRefusal (HasProgramFault (says_raw options.now) (stack_pages options.now) bytes.now) bad_program) }
@@ -269,7 +285,7 @@ pub(crate) fn workers_of(options: &Options) -> u32
 }
 
 // The recorded input, which keeps the bytes of its journal; none where there is no journal.
-pub(crate) fn journal_in(alloc: Global, bytes: Option<Vec<u8>>) -> Result<Journal, Outcome>
+fn journal_in(alloc: Global, bytes: Option<Vec<u8>>) -> Result<Journal, Outcome>
     ensures found { IfOk result (AreItemsOf (text_of bytes)) }
     ensures refused { IfErr result (IsRefusal (HasJournalFault (text_of bytes)) bad_journal) }
 {

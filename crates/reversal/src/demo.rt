@@ -10,7 +10,7 @@ ghost use Rattle.elf_load.specs.Prelude.{IsRawProgram};
 ghost use Rattle.reverse_runner.specs.Prelude.{begun};
 ghost use Rattle.endings.specs.Prelude.{no_memory};
 ghost use Rattle.sha2.specs.Sha256.{sha256};
-ghost use Rattle.reversal.specs.Prelude.{IsAtStart, BreaksWithin, demonstrate, Moment, beside, DecidesDemo, drawn, instruction_of, program, demo_list, summary_text, lines_down, IsShowable, Works, IsDecided};
+ghost use Rattle.reversal.specs.Prelude.{IsAtStart, IsOneKeeper, BreaksWithin, demonstrate, Moment, beside, DecidesDemo, drawn, instruction_of, program, demo_list, summary_text, lines_down, IsShowable, Works, IsDecided};
 
 use crate::job::Job;
 use crate::line_hasher::LineHasher;
@@ -220,15 +220,10 @@ impl Demonstrated {
         ensures session { IfOk result (λ d. d.session ≡ begun start [] 1 steps (slots_of (plain slots))) }
         ensures list { IfOk result (λ d. d.actions ≡ demo_list steps slots) }
     {
-        let book = Book::plain(slots);
-        let actions = match Revolve::new(alloc, steps, &book) {
-            Ok(actions) => actions,
-            Err(GenFault::Memory) => return Err(AllocError),
-            Err(GenFault::NoPlan(_)) => unreachable!(),
-        };
-        let mut keepers = Vec::with_capacity(alloc, 1)?;
-        keepers.push(MemoryKeeper::new(alloc, slots))?;
+        let actions = list_of(alloc, steps, slots)?;
+        let keepers = keeper_of(alloc, slots)?;
         start.is_machine_state();
+        let book = Book::plain(slots);
         let session = Session::begin(alloc, start, Journal::none(alloc), steps, 1, book)?;
         Ok(Demonstrated {
             session,
@@ -253,6 +248,29 @@ impl Demonstrated {
         }
         Some(hasher.finalize())
     }
+}
+
+// Revolve's list of a demonstration.
+fn list_of(alloc: Global, steps: u32, slots: u32) -> Result<Revolve, AllocError>
+    requires steps { steps ≤ MOST_STEPS }
+    requires slots { slots ≤ MOST_SLOTS }
+    requires plan { HasPlan steps (total_room (plain slots) steps) }
+    ensures { IfOk result (λ actions. actions ≡ demo_list steps slots) }
+{
+    match Revolve::new(alloc, steps, &Book::plain(slots)) {
+        Ok(actions) => Ok(actions),
+        Err(GenFault::Memory) => Err(AllocError),
+        Err(GenFault::NoPlan(_)) => unreachable!(),
+    }
+}
+
+// One keeper in memory, with so many slots.
+fn keeper_of(alloc: Global, slots: u32) -> Result<Vec<MemoryKeeper>, AllocError>
+    ensures { IfOk result (λ keepers. IsOneKeeper slots keepers.items) }
+{
+    let mut keepers = Vec::with_capacity(alloc, 1)?;
+    keepers.push(MemoryKeeper::new(alloc, slots))?;
+    Ok(keepers)
 }
 
 // The text about a run.

@@ -5,7 +5,7 @@ ghost use Rattle.requests.specs.Prelude.{stack_pages, worker_count};
 ghost use Rattle.reversal.specs.Prelude.{seek, Moment, beside, Decided, find_table, IsSearchable, Works, text_of, IsDecided};
 
 use crate::asking::write_answer;
-use crate::decision::{journal_in, start_of};
+use crate::decision::beginning_of;
 use crate::job::Job;
 use endings::Outcome;
 use input_journal::Journal;
@@ -73,8 +73,7 @@ pub fn decide_find(
     ensures { (counts : List ℕ) →
         IsDecided (Decided (find_table options.now find.now.steps find.now.digest loaded.old.program.items (text_of loaded.old.journal))) counts result }
 {
-    let start = start_of(alloc, options, &loaded.program)?;
-    let journal = journal_in(alloc, loaded.journal.take())?;
+    let (start, journal) = beginning_of(alloc, options, &loaded.program, loaded.journal.take())?;
     Ok(Job::Find(Finding {
         start,
         journal,

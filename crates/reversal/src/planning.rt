@@ -12,7 +12,7 @@ ghost use Rattle.requests.specs.Prelude.{worker_count, made};
 ghost use Rattle.reversal.specs.Prelude.{perform, write, Moment, beside, bytes_of, DecidesOver, EndsShowing, course_of, DecidesPlanRevolve, left_of, job_of, certificate_pieces, pieces_of, IsWritable, CanBeDone, HasWorkers, KeepersHaveRoom, text_of, IsDecided, RunFits, line_of_action, list_pieces};
 
 use crate::actions::Actions;
-use crate::decision::{book_in, journal_in, keep, start_of, unit_of, workers_of};
+use crate::decision::{beginning_of, book_in, keep, unit_of, workers_of};
 use crate::job::{Job, Performance};
 use action_text::print_action;
 use bound_cert::certify_revolve;
@@ -48,8 +48,7 @@ pub fn decide_made(
     let book = book_in(alloc, &loaded.book)?;
     keep(steps, &book, counts)?;
     let revolve = revolve_for(alloc, steps, &book)?;
-    let start = start_of(alloc, options, &loaded.program)?;
-    let journal = journal_in(alloc, loaded.journal.take())?;
+    let (start, journal) = beginning_of(alloc, options, &loaded.program, loaded.journal.take())?;
     Ok(Job::Perform(Performance {
         start,
         journal,
@@ -128,6 +127,16 @@ impl Plan {
     pub fn write<O: Sink>(mut self, out: &mut O) -> Outcome
         requires { IsWritable self }
         ensures { (other : Moment) (steps : ℕ) → EndsShowing (course_of (write (pieces_of self))) result
+            (beside O.Sink other out.old steps)
+            (beside O.Sink other out.new steps) }
+    {
+        self.write_all(out)
+    }
+
+    // Writes the pieces of the list, and then the certificate's text, if there is one.
+    fn write_all<O: Sink>(&mut self, out: &mut O) -> Outcome
+        requires { IsWritable self.old }
+        ensures { (other : Moment) (steps : ℕ) → EndsShowing (course_of (write (pieces_of self.old))) result
             (beside O.Sink other out.old steps)
             (beside O.Sink other out.new steps) }
     {

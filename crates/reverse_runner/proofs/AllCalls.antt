@@ -1,10 +1,13 @@
 -- How the calls of the keepers of a session add up.
-use Rattle.std.proofs.Common.{◌≡◌, ℕ, ◌+◌, ◌∙◌, ap, arith}
+use Rattle.std.proofs.Common.{◌≡◌, ℕ, ◌+◌, ◌*◌, ◌∙◌, false, refl, ap, sym, subst, arith}
 use Rattle.keepers.specs.Counts.{raised}
+use Rattle.plan_types.specs.declared.action.Keep.{Keep}
+use Rattle.plan_types.specs.declared.action.Keep.TheVariants.{Store}
 use Rattle.plan_types.specs.declared.action.Dest.{Dest}
 use Rattle.plan_types.specs.declared.action.Dest.TheVariants.{Work, Level}
-use Rattle.plan_types.specs.declared.action.Action.TheVariants.{Copy, Move}
-use Rattle.reverse_runner.specs.KeepersSeen.{Calls, calls_of, RiseBy, RiseByAtMost, Called, CalledAtMost}
+use Rattle.plan_types.specs.declared.action.Action.TheVariants.{Forward, Copy, Move}
+use Rattle.level_book.specs.CostFold.{is_write}
+use Rattle.reverse_runner.specs.KeepersSeen.{Calls, one_if, calls_of, RiseBy, RiseByAtMost, Called, CalledAtMost}
 use Rattle.reverse_runner.specs.KeeperCallEffects.{one_put, one_get}
 
 -- these calls and then those
@@ -63,3 +66,35 @@ called_copy n k j a b c got put =
 pub some_moved : (n k : ℕ) (to : Dest) (a b : Calls) → CalledAtMost (calls_of (Copy n k to)) a b → CalledAtMost (calls_of (Move n k to)) a b
 some_moved n k Work a b called = record { put_calls = called.put_calls; get_calls = called.get_calls; free_calls = λ j. (let f = called.free_calls j in (omega (arith, f), omega (arith, f))) }
 some_moved n k (Level i) a b called = record { put_calls = called.put_calls; get_calls = called.get_calls; free_calls = λ j. (let f = called.free_calls j in (omega (arith, f), omega (arith, f))) }
+
+-- an action without machine steps counts none
+pub counts_none : (unit steps : ℕ) → steps ≡ steps + unit * 0
+counts_none unit steps = omega arith
+
+-- the calls of a Copy into work: an image is got
+pub called_into_work : (n k : ℕ) (dest : Dest) (a b : Calls) → dest ≡ Work → Called (one_get k) a b → Called (calls_of (Copy n k dest)) a b
+called_into_work n k dest a b is got =
+    let P : Dest → Type 0 = λ d. Called (calls_of (Copy n k d)) a b in
+    subst P (sym is) (record { put_calls = got.put_calls; get_calls = got.get_calls; free_calls = got.free_calls })
+
+-- a Copy that only got its image made some of its calls
+pub some_copied : (n k : ℕ) (dest : Dest) (a b : Calls) → Called (one_get k) a b → CalledAtMost (calls_of (Copy n k dest)) a b
+some_copied n k Work a b got = at_most (calls_of (Copy n k Work)) a b (called_into_work n k Work a b refl got)
+some_copied n k (Level j) a b got = record {
+  put_calls = λ i. (let e = got.put_calls i in (omega (arith, e), omega (arith, e)));
+  get_calls = rise_at_most (one_get k).gets a.gets b.gets got.get_calls;
+  free_calls = rise_at_most (one_get k).frees a.frees b.frees got.free_calls;
+}
+
+-- the calls of a Forward that keeps nothing, or on the tape
+pub called_no_keeper : (from to : ℕ) (keep : Keep) (a : Calls) → ((k : ℕ) → is_write k (Forward from to keep) ≡ false) → Called (calls_of (Forward from to keep)) a a
+called_no_keeper from to keep a none =
+    let same : RiseBy (λ _. 0) a.puts a.puts = λ k. omega arith in
+    let rise = rise_same (λ _. 0) (calls_of (Forward from to keep)).puts a.puts a.puts same (λ k. ap one_if (sym (none k))) in
+    record { put_calls = rise; get_calls = λ k. omega arith; free_calls = λ k. omega arith }
+
+-- the calls of a Forward that stores: an image is put
+pub called_stored : (from to k : ℕ) (keep : Keep) (a b : Calls) → keep ≡ Store k → Called (one_put k) a b → Called (calls_of (Forward from to keep)) a b
+called_stored from to k keep a b is put =
+    let P : Keep → Type 0 = λ x. Called (calls_of (Forward from to x)) a b in
+    subst P (sym is) (record { put_calls = put.put_calls; get_calls = put.get_calls; free_calls = put.free_calls })

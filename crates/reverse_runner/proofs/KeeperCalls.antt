@@ -126,7 +126,8 @@ are_as g T r s ks ls back on a = record {
 pub are_err : {K A B : Type 0} (g : Ghosts K) (T : ℕ → Type 0) (r : Result A RunFault) (s : Result B RunFault) (x y : RunFault) (ks ls : List K) → r ≡ Err x → s ≡ Err y → y ≡ x → KeepersAre g T r ks ls → KeepersAre g T s ks ls
 are_err g T r s x y ks ls first second same = are_as g T r s ks ls (λ k e. passed r s x y (Keeper k) first second same e) (λ k e. passed s r y x (Keeper k) second first (sym same) e)
 
-ok_not : {A : Type 0} (r : Result A RunFault) (x : A) (k : ℕ) → r ≡ Ok x → r ≡ Err (Keeper k) → ⊥
+-- a call that was done says of no keeper that it failed
+pub ok_not : {A : Type 0} (r : Result A RunFault) (x : A) (k : ℕ) → r ≡ Ok x → r ≡ Err (Keeper k) → ⊥
 ok_not r x k is e = cc
 
 pub are_ok : {K A B : Type 0} (g : Ghosts K) (T : ℕ → Type 0) (r : Result A RunFault) (x : A) (y : B) (ks ls : List K) → r ≡ Ok x → KeepersAre g T r ks ls → KeepersAre {A = B} g T (Ok y) ks ls

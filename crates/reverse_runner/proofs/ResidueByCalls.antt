@@ -1,5 +1,5 @@
 -- What a refused action may have left on the levels, from what its calls did.
-use Rattle.std.proofs.Common.{◌≡◌, ◌≢◌, ◌⊎◌, ℕ, zero, suc, ◌==◌, ◌<◌, Bool, true, false, List, [], ◌∷◌, set as put, Option, Some, None, Result, Ok, Err, OnErr, refl, sym, ◌∙◌, ap, subst, inl, inr, arith}
+use Rattle.std.proofs.Common.{◌≡◌, ◌≢◌, ◌⊎◌, ℕ, zero, suc, ◌==◌, ◌<◌, Bool, true, false, List, [], ◌∷◌, set as put, Option, Some, None, Result, Ok, Err, OnOk, OnErr, refl, sym, ◌∙◌, ap, subst, inl, inr, arith}
 use Rattle.std.specs.FinMap as finmap
 use Rattle.std.proofs.lemmas.Bool.{false≢true, cases_eq, ne_eqb, eqb-true, eqb-false}
 use Rattle.std.proofs.lemmas.List.{get_or-set_other}
@@ -273,3 +273,8 @@ leaves_moved unit journal n from (Level to) a b told apart acts left others =
 pub on_err : {T E P : Type 0} (r : Result T E) → P → OnErr r P
 on_err (Ok x) p = tt
 on_err (Err e) p = p
+
+-- what is said of Ok holds at Err
+pub not_ok : {T E : Type 0} (r : Result T E) (x : E) (P : Type 0) → r ≡ Err x → OnOk r P
+not_ok (Ok y) x P e = absurd cc
+not_ok (Err y) x P e = tt

@@ -34,6 +34,7 @@ pub(crate) struct Workspace {
 }
 
 impl Workspace {
+    ghost use Rattle.reverse_runner.specs.DeskFields.{Fits};
     ghost use Rattle.reverse_runner.specs.Workspaces.{IsInOrder, HasTape, tape_in};
 
     /// A workspace with a state in work, and no images. It takes all memory that it ever needs.
@@ -52,13 +53,32 @@ impl Workspace {
         ensures store { IfOk result (λ w. w.desk.store ≡ no_pairs_on (slots_of book.now) steps) }
         ensures fits { IfOk result IsInOrder }
     {
-        let tape = start.clone()?;
+        let tape = KnownState::new(start.clone()?);
         let desk = Desk::begin(alloc, start, book, steps)?;
+        Workspace::with_no_tape(alloc, desk, tape, journal, unit)
+    }
+
+    // A workspace with this desk and an empty tape, before this state.
+    fn with_no_tape(
+        alloc: Global,
+        desk: Desk,
+        tape: KnownState,
+        journal: &Journal,
+        unit: u32,
+    ) -> Result<Workspace, AllocError>
+        requires unit { (1 ≤ unit) × (unit ≤ 1024) }
+        requires pages { SamePages tape desk.work }
+        requires fits { Fits desk }
+        ensures undo { IfOk result (λ w. w.undo ≡ begun_undo unit journal.now) }
+        ensures desk { IfOk result (λ w. w.desk ≡ desk) }
+        ensures tape { IfOk result (λ w. w.tape ≡ tape) }
+        ensures order { IfOk result IsInOrder }
+    {
         let undo = Undo::begin(alloc, unit, journal)?;
         let known = Vec::with_capacity(alloc, unit as usize)?;
         Ok(Workspace {
             desk,
-            tape: KnownState::new(tape),
+            tape,
             undo,
             known,
         })

@@ -5,7 +5,7 @@ ghost use Rattle.revolve_gen.specs.Stack.{stack_step, place, held_after, on_leve
 use plan_types::{Action, Dest, Keep};
 
 /// What an action does to a stack of images. A Copy or a Move is of the newest.
-#[derive(Clone, Copy, Debug, PartialEq, Eq)]
+#[derive(Clone, Copy, PartialEq, Eq)]
 pub enum StackStep {
     /// It puts an image on top.
     Push,

@@ -1,7 +1,7 @@
 // A part of the steps, and what is to be written of it.
 
 /// A stretch of steps whose first state is held.
-#[derive(Clone, Copy, Debug, PartialEq, Eq)]
+#[derive(Clone, Copy, PartialEq, Eq)]
 pub struct Stretch {
     /// The number of its first state.
     pub start: u32,

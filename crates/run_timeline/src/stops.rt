@@ -9,7 +9,7 @@ use rv_machine::{Next, Span, State};
 use std::marker::Model;
 
 /// Bytes that are watched: at so many addresses from one on, modulo 2 ^ 32.
-#[derive(Clone, Copy, Debug, PartialEq, Eq)]
+#[derive(Clone, Copy, PartialEq, Eq)]
 pub struct Range {
     pub start: u32,
     pub length: u32,
@@ -32,7 +32,7 @@ pub enum Hit {
 }
 
 /// The end of a part of a move forward.
-#[derive(Clone, Copy, Debug, PartialEq, Eq)]
+#[derive(Clone, Copy, PartialEq, Eq)]
 pub enum Part {
     /// The move ended with this hit, or at the end of the run.
     Ended(Option<Hit>),
@@ -41,7 +41,7 @@ pub enum Part {
 }
 
 /// How a step over a run ended.
-#[derive(Clone, Copy, Debug, PartialEq, Eq)]
+#[derive(Clone, Copy, PartialEq, Eq)]
 pub enum Step {
     /// It was taken.
     Went,

@@ -2,7 +2,7 @@
 
 /// An instruction of RV32IM with its registers. An immediate is sign-extended to 32 bits. For SLLI, SRLI and SRAI it is
 /// the number of places.
-#[derive(Clone, Copy, Debug, PartialEq, Eq)]
+#[derive(Clone, Copy)]
 pub enum Inst {
     Lui { rd: u8, imm: u32 },
     Auipc { rd: u8, imm: u32 },

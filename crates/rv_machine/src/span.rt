@@ -1,7 +1,7 @@
 // Runs of addresses.
 
 /// So many consecutive addresses from one on, modulo 2 ^ 32.
-#[derive(Clone, Copy, Debug, PartialEq, Eq)]
+#[derive(Clone, Copy, PartialEq, Eq)]
 pub struct Span {
     /// The first address.
     pub at: u32,

@@ -16,7 +16,7 @@ use std::alloc::{AllocError, Global};
 use std::marker::Model;
 
 /// Why an action isn't allowed.
-#[derive(Clone, Copy, Debug, PartialEq, Eq)]
+#[derive(Clone, Copy, PartialEq, Eq)]
 pub enum Broken {
     /// It breaks the rule with this number, and no lower one. The level is set for rule 4, and 0 otherwise.
     Rule { rule: u8, level: u8 },

@@ -10,7 +10,7 @@ use plan_types::Action;
 use std::alloc::{AllocError, Global};
 
 /// The verdict on a whole list.
-#[derive(Clone, Copy, Debug, PartialEq, Eq)]
+#[derive(Clone, Copy, PartialEq, Eq)]
 pub enum Verdict {
     /// It reverses the computation.
     Valid,

@@ -1,7 +1,7 @@
 // The place of a clause that fails.
 
 /// An entry of a table, and a clause that fails there.
-#[derive(Clone, Copy, Debug, PartialEq, Eq)]
+#[derive(Clone, Copy, PartialEq, Eq)]
 pub struct Entry {
     /// 0 is F, 1 is H, 2 is Fd and 3 is Hd.
     pub table: u8,

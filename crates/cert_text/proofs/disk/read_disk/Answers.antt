@@ -1,42 +1,39 @@
-use Rattle.std.proofs.Common.{◌≡◌, inr, length, arith}
-use Rattle.std.specs.List.{range_with_len, flat_map}
+use Rattle.std.proofs.Common.{◌≡◌, ◌∙◌, inl, inr, length, refl, sym, ap, arith}
 use Rattle.std.proofs.lemmas.Result.{err_from_is_err_and}
-use Rattle.cost_tables.specs.TableRows.{fastest}
-use Rattle.cert_text.specs.WordLines.{level_lines}
-use Rattle.cert_text.specs.Grammar.{column_wants}
-use Rattle.cert_text.proofs.ReadTables.{fault_in_levels}
-use Rattle.cert_text.proofs.ReadDisk.{fresh_fault, held_fault, last_fault, parts_are, disk_done}
+use Rattle.cert_text.proofs.ReadDisk.{disk_fault, parts_are, disk_done}
 use Rattle.cert_text.proofs.disk.read_disk.Goals as goal
 
-pub returns-in_err-read_levels : goal.returns-in_err-read_levels
-returns-in_err-read_levels c =
-    let p = err_from_is_err_and c.from_residual-in_err-read_levels.result c.from_residual-in_err-read_levels.ensures.1 in
-    rw (p.1, p.2) (inr (fault_in_levels c.args.setting.now.steps (fastest c.args.setting.now.book.now) c.in_ok-fast.fast (column_wants c.args.setting.now.steps) c.args.reader.now c.in_err-read_levels.field-0.0 c.in_ok-fast.ensures.sizes c.in_err-read_levels.ensures))
+pub returns-in_err-fast : goal.returns-in_err-fast
+returns-in_err-fast c =
+    let p = err_from_is_err_and c.from_residual.result c.from_residual.ensures.1 in
+    rw (p.1, p.2) (inl refl)
 
-pub returns-in_err-read_column : goal.returns-in_err-read_column
-returns-in_err-read_column c =
-    let p = err_from_is_err_and c.from_residual-in_err-read_column.result c.from_residual-in_err-read_column.ensures.1 in
-    rw (p.1, p.2) (inr (fresh_fault c.args.setting.now.steps _ c.args.setting.now.book.now c.in_ok-fast.fast (flat_map (level_lines c.read_levels.new.tables) (range_with_len 0 (length c.in_ok-fast.fast.rooms))) c.args.reader.now c.read_levels.new.reader
-    c.in_err-read_column.field-0.0 (omega arith) c.in_ok-fast.ensures.sizes c.in_ok-read_levels.ensures.0 c.in_err-read_column.ensures))
+pub returns-in_err-fresh : goal.returns-in_err-fresh
+returns-in_err-fresh c =
+    let p = err_from_is_err_and c.from_residual-in_err-fresh.result c.from_residual-in_err-fresh.ensures.1 in
+    rw (p.1, p.2) (inl refl)
 
-pub returns-in_err-read_column-2 : goal.returns-in_err-read_column-2
-returns-in_err-read_column-2 c =
-    let p = err_from_is_err_and c.from_residual-in_err-read_column-2.result c.from_residual-in_err-read_column-2.ensures.1 in
-    rw (p.1, p.2) (inr (held_fault c.args.setting.now.steps _ _ c.args.setting.now.book.now c.in_ok-fast.fast (flat_map (level_lines c.read_levels.new.tables) (range_with_len 0 (length c.in_ok-fast.fast.rooms))) _ c.args.reader.now c.read_levels.new.reader
-    c.read_column.new.reader c.in_err-read_column-2.field-0.0 (omega arith) (omega arith) c.in_ok-fast.ensures.sizes c.in_ok-read_levels.ensures.0 c.in_ok-read_column.ensures.0 c.in_err-read_column-2.ensures))
+pub returns-in_err-held : goal.returns-in_err-held
+returns-in_err-held c =
+    let p = err_from_is_err_and c.from_residual-in_err-held.result c.from_residual-in_err-held.ensures.1 in
+    rw (p.1, p.2) (inl refl)
 
-pub returns-in_err-read_end : goal.returns-in_err-read_end
-returns-in_err-read_end c =
-    let p = err_from_is_err_and c.from_residual-in_err-read_end.result c.from_residual-in_err-read_end.ensures.1 in
-    rw (p.1, p.2) (inr (last_fault c.args.setting.now.steps _ _ c.args.setting.now.book.now c.in_ok-fast.fast (flat_map (level_lines c.read_levels.new.tables) (range_with_len 0 (length c.in_ok-fast.fast.rooms))) _ _ c.args.reader.now c.read_levels.new.reader
-    c.read_column.new.reader c.read_column-2.new.reader c.in_err-read_end.field-0.0 (omega arith) (omega arith) c.in_ok-fast.ensures.sizes c.in_ok-read_levels.ensures.0 c.in_ok-read_column.ensures.0 c.in_ok-read_column-2.ensures.0 c.in_err-read_end.ensures))
+pub read_lines-requires-clause-fresh : goal.read_lines-requires-clause-fresh
+read_lines-requires-clause-fresh c = ap (λ l. length l) c.deref_mut.ensures.value ∙ c.in_ok-fresh.ensures ∙ sym c.in_ok-fast.ensures.sizes.steps_are
+
+pub read_lines-requires-clause-held : goal.read_lines-requires-clause-held
+read_lines-requires-clause-held c = ap (λ l. length l) c.deref_mut-2.ensures.value ∙ c.in_ok-held.ensures ∙ sym c.in_ok-fast.ensures.sizes.steps_are
+
+pub returns-in_err-read_lines : goal.returns-in_err-read_lines
+returns-in_err-read_lines c =
+    let p = err_from_is_err_and c.from_residual-in_err-read_lines.result c.from_residual-in_err-read_lines.ensures.1 in
+    rw (p.1, p.2) (inr (disk_fault c.args.setting.now.steps c.args.setting.now.book.now c.in_ok-fast.fast c.args.reader.now c.in_err-read_lines.field-0.0 c.in_ok-fast.ensures.sizes c.in_err-read_lines.ensures))
 
 pub returns : goal.returns
 returns c =
-    let x = c.read_column.new.row in let y = c.read_column-2.new.row in
+    let x = c.read_lines.new.fresh in let y = c.read_lines.new.held in
     let x_long : length x ≡ c.args.setting.now.steps = omega (arith, c.in_ok-fresh.ensures) in
     let y_long : length y ≡ c.args.setting.now.steps = omega (arith, c.in_ok-held.ensures) in
-    disk_done c.args.setting.now.steps c.args.setting.now.book.now c.in_ok-fast.fast c.read_levels.new.tables x y c.from_parts.result c.args.reader.now c.read_levels.new.reader c.read_column.new.reader c.read_column-2.new.reader
-    c.requires c.in_ok-fast.ensures.sizes c.in_ok-read_levels.ensures.0 c.in_ok-read_levels.ensures.1 c.in_ok-read_levels.ensures.2 c.in_ok-read_levels.ensures.3 c.is_shaped.ensures x_long y_long
-    c.in_ok-read_column.ensures.0.says (λ i low. c.in_ok-read_column.ensures.1 i (omega arith)) c.in_ok-read_column-2.ensures.0.says (λ i low. c.in_ok-read_column-2.ensures.1 i (omega arith)) c.in_ok-read_end.ensures
-    (parts_are c.from_parts.result c.read_levels.new.tables c.in_ok-fresh.fresh.len c.in_ok-held.held.len x y _ _ (omega arith) (omega arith) c.from_parts.ensures)
+    disk_done c.args.setting.now.steps c.args.setting.now.book.now c.in_ok-fast.fast c.read_lines.new.fast x y c.from_parts.result c.args.reader.now
+    c.requires c.in_ok-fast.ensures.sizes c.in_ok-read_lines.ensures c.is_shaped.ensures x_long y_long
+    (parts_are c.from_parts.result c.read_lines.new.fast c.in_ok-fresh.fresh.len c.in_ok-held.held.len x y _ _ (omega arith) (omega arith) c.from_parts.ensures)

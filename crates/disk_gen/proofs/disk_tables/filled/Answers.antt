@@ -1,4 +1,4 @@
-use Rattle.std.proofs.Common.{◌≡◌, ℕ, List, ◌<◌, ◌^◌, arith, sym, ap, ◌∙◌, subst, length, map, get_or}
+use Rattle.std.proofs.Common.{◌≡◌, ℕ, List, ◌<◌, ◌≤◌, ◌^◌, All, arith, sym, ap, ◌∙◌, subst, length, map, get_or}
 use Rattle.std.proofs.lemmas.List.{length-take, length-map}
 use Rattle.cost_tables.specs.TableRows.{fastest, tables_in, value_of}
 use Rattle.cost_tables.specs.declared.cost.Cost.{Cost}
@@ -21,6 +21,37 @@ fast_column-requires-clause-low g c = λ l v one le e.
     let known : 0 < length (fastest book).levels = omega (arith, length-take 1 book.levels) in
     let same = sizes.rooms_are 0 known ∙ same_room book c.args.steps in
     fastest_low c.args.steps book (tables_in fast) (omega arith) c.requires.fits.few c.is_within_limits.ensures c.in_ok-fast.ensures.greatest l (get_or fast.rooms 0 0) v one (omega (arith, sizes.steps_are)) (omega arith) e
+
+pub held_column-requires-clause-few : goal.held_column-requires-clause-few
+held_column-requires-clause-few g c =
+    let few = c.requires.fits.few in
+    omega (arith, ap length c.deref.ensures.value, c.in_ok-column.ensures.count, c.in_ok-fast.ensures.sizes.steps_are)
+
+pub held_column-requires-clause-fast : goal.held_column-requires-clause-fast
+held_column-requires-clause-fast g c =
+    let P : List ℕ → Type 0 = λ xs. All (λ n. n ≤ 2 ^ 61) xs in
+    subst P (sym c.deref.ensures.value) c.in_ok-column.ensures.low
+
+pub fresh_column-requires-clause-few : goal.fresh_column-requires-clause-few
+fresh_column-requires-clause-few g c =
+    let few = c.requires.fits.few in
+    omega (arith, ap length c.deref-2.ensures.value, c.in_ok-column.ensures.count, c.in_ok-fast.ensures.sizes.steps_are)
+
+pub fresh_column-requires-clause-fast : goal.fresh_column-requires-clause-fast
+fresh_column-requires-clause-fast g c =
+    let P : List ℕ → Type 0 = λ xs. All (λ n. n ≤ 2 ^ 61) xs in
+    subst P (sym c.deref-2.ensures.value) c.in_ok-column.ensures.low
+
+pub fresh_column-requires-clause-held : goal.fresh_column-requires-clause-held
+fresh_column-requires-clause-held g c =
+    let P : List ℕ → Type 0 = λ xs. All (λ n. n ≤ 2 ^ 62) xs in
+    subst P (sym c.deref-3.ensures.value) c.in_ok-held.ensures.column.low
+
+pub fresh_column-requires-clause-count : goal.fresh_column-requires-clause-count
+fresh_column-requires-clause-count g c = ap length c.deref-3.ensures.value ∙ c.in_ok-held.ensures.count ∙ ap length c.deref.ensures.value ∙ sym (ap length c.deref-2.ensures.value)
+
+pub returns-clause-sizes : goal.returns-clause-sizes
+returns-clause-sizes g c = record { sized = c.in_ok-fast.ensures.sizes; plan = c.requires.plan }
 
 pub invariant_of-result : goal.invariant_of-result
 invariant_of-result g c =

@@ -14,8 +14,7 @@ use Rattle.reverse_runner.specs.KeepersSeen.{told_by, calls_to}
 use Rattle.reverse_runner.specs.Rooms.{image_room, rooms_by}
 use Rattle.reverse_runner.specs.Workspaces.{holdings_in, Ends}
 use Rattle.reverse_runner.proofs.AllCalls.{at_most, some_moved}
-use Rattle.reverse_runner.proofs.KeeperCalls.{are_err, are_then, are_wider, passed}
-use Rattle.reverse_runner.proofs.KeeperFaults.{no_keeper}
+use Rattle.reverse_runner.proofs.KeeperCalls.{are_err, are_then, are_wider, passed, ok_not}
 use Rattle.reverse_runner.proofs.LevelPreconditions.{on_level, may_give, copy_keeps_source, called_move_then, moves_held, moves_apart, move_names_copied, copy_names_source, keeping_is_on, damage_moves, moved}
 use Rattle.reverse_runner.proofs.ResidueByCalls.{on_err, leaves_uncopied, leaves_moved, move_came, move_unreached}
 use Rattle.reverse_runner.proofs.Rooms.{roomy_still}
@@ -169,7 +168,7 @@ returns-in_ok-copy-in-Move-clause-ends g c =
             gives.roomy bound there e);
         undamaged = search rules;
       };
-      kept = are_then told T c.copy-in-Move.result c.release.result _ _ _ (λ k. no_keeper c.copy-in-Move.result _ k c.in_ok-copy-in-Move.was) read freed;
+      kept = are_then told T c.copy-in-Move.result c.release.result _ _ _ (λ k. ok_not c.copy-in-Move.result _ k c.in_ok-copy-in-Move.was) read freed;
       order = record {
         fits =
             still_in_order w d (same_pages stays.0) (still_fits w.desk d (same_pages stays.0) (same_room stays.1) (desk_fits w ends.order.fits)) ends.order.fits;

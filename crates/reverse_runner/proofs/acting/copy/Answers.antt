@@ -1,4 +1,4 @@
-use Rattle.std.proofs.Common.{◌≡◌, ◌∙◌, ℕ, List, Option, length, Err, Contains, refl, ap, sym, subst, inr, rules}
+use Rattle.std.proofs.Common.{◌≡◌, ◌∙◌, ℕ, List, Option, length, Err, Contains, refl, ap, sym, subst, inr}
 use Rattle.std.proofs.lemmas.Result.{IfErr-at_err, err_from_is_err_and, on_ok_weaker, on_err_weaker}
 use Rattle.plan_types.specs.declared.action.Dest.{Dest}
 use Rattle.plan_types.specs.declared.action.Action.TheVariants.{Copy}
@@ -10,7 +10,7 @@ use Rattle.rv_machine.specs.MachineState.{MachineState}
 use Rattle.image_store.specs.Calls.{IsKept}
 use Rattle.image_store.specs.Shelves.{ShelfState, level_of}
 use Rattle.reverse_runner.specs.declared.fault.RunFault.{RunFault}
-use Rattle.reverse_runner.specs.declared.fault.RunFault.TheVariants.{Keeper, Damaged}
+use Rattle.reverse_runner.specs.declared.fault.RunFault.TheVariants.{Keeper, Damaged, Memory}
 use Rattle.reverse_runner.specs.ActionEffects.{Holdings, IsFetched, IsDecoded, Does}
 use Rattle.reverse_runner.specs.KeeperCallEffects.{IsKeeping}
 use Rattle.reverse_runner.specs.KeepersSeen.{told_by, calls_of, calls_to, Called}
@@ -18,11 +18,11 @@ use Rattle.reverse_runner.specs.Rooms.{image_room, rooms_by}
 use Rattle.reverse_runner.specs.SessionOfRun.{IsNoImage, IsDamage}
 use Rattle.reverse_runner.specs.Units.{unit_states}
 use Rattle.reverse_runner.specs.Workspaces.{levels_in, holdings_in}
-use Rattle.reverse_runner.proofs.AllCalls.{called_copy, at_most}
+use Rattle.reverse_runner.proofs.AllCalls.{called_copy, at_most, counts_none, called_into_work, some_copied}
 use Rattle.reverse_runner.proofs.ImageIntegrity.{held_stands, fetched_image, state_of_run}
-use Rattle.reverse_runner.proofs.KeeperCalls.{are_as, are_err, are_then, are_wider}
+use Rattle.reverse_runner.proofs.KeeperCalls.{are_as, are_err, are_then, are_wider, ok_not, passed}
 use Rattle.reverse_runner.proofs.LevelPreconditions.{on_level, may_keep, may_get, may_give, copies_held, copies_free, damage_of, copied_to_work, copy_names_source, copy_names_target, keeping_is_on}
-use Rattle.reverse_runner.proofs.ResidueByCalls.{on_err, leaves_not_got, leaves_not_decoded, leaves_copied, copy_came}
+use Rattle.reverse_runner.proofs.ResidueByCalls.{on_err, not_ok, leaves_not_got, leaves_not_decoded, leaves_copied, copy_came}
 use Rattle.reverse_runner.proofs.Rooms.{roomy_still, short_same}
 use Rattle.reverse_runner.proofs.WorkspaceInvariant.{desk_fits, still_fits, still_in_order, same_pages, same_room}
 use Rattle.reverse_runner.proofs.acting.copy.Goals as goal
@@ -58,30 +58,36 @@ returns-in_err-digest-clause-ends g c unit journal steps =
     let p = err_from_is_err_and c.from_residual.result c.from_residual.ensures.1 in
     let T : ℕ → Type 0 = λ k. Contains (levels_named (Copy c.args.n c.args.from c.args.dest)) k in
     let wide = are_wider told _ T c.fetch.result _ _ (λ k e. subst T (sym e) (copy_names_source c.args.n c.args.from c.args.dest)) c.fetch.ensures.fetches.are in
+    let kept = are_err told T c.fetch.result c.from_residual.result _ _ _ _ c.in_err-digest.was p.1 p.2 wide in
+    let same : (fault : RunFault) → c.from_residual.result ≡ Err fault → c.fetch.result ≡ Err fault =
+    λ fault e. passed c.fetch.result c.from_residual.result _ _ fault c.in_err-digest.was p.1 p.2 e in
     record {
       does = record {
-        acted = search rules;
-        leaves = on_err c.from_residual.result (record { left = left; uncounted = refl; called_at_most = search rules });
+        acted = not_ok c.from_residual.result _ _ p.1;
+        leaves = on_err c.from_residual.result (record {
+          left = left;
+          uncounted = refl;
+          called_at_most = some_copied c.args.n c.args.from c.args.dest _ _ c.fetch.ensures.fetches.called;
+        });
       };
       caused = record {
-        named = search rules;
+        named = λ k e. (kept.cause k e).0;
         damaged = λ k put got e.
-            (let same : c.fetch.result ≡ Err (Damaged k put got) = cc in
-            let other = c.fetch.ensures.fetches.damaged k put got same in
+            (let other = c.fetch.ensures.fetches.damaged k put got (same (Damaged k put got) e) in
             damage_of (Copy c.args.n c.args.from c.args.dest) (holdings_in w (told_by told c.args.keepers.now.items)) c.args.n c.args.from k put got refl other.0 other.1);
         unreached = λ k j e un. (c.fetch.ensures.fetches.same j).1;
-        whole = search rules;
-        wants = search rules;
+        whole = λ k put got e j. (c.fetch.ensures.fetches.same j).1;
+        wants = λ e. refl;
       };
       spared = λ recorded short. record {
-        roomy = search rules;
+        roomy = λ roomy e.
+            c.fetch.ensures.fetches.roomy (image_room w.desk.work) (roomy c.args.from is_held.level) short c.requires.ready.fits.buffer (same Memory e);
         undamaged = λ first is stands k put got e.
-            (let same : c.fetch.result ≡ Err (Damaged k put got) = cc in
-            let s = holdings_in w (told_by told c.args.keepers.now.items) in
+            (let s = holdings_in w (told_by told c.args.keepers.now.items) in
             let there = held_stands first journal unit now.steps now.slots now.at s c.args.from c.args.n stands c.requires.ready.laid is_held.level is_held.there in
-            IfErr-at_err (IsKeeping c.args.from) same (c.fetch.ensures.fetches.sound there.0 there.1));
+            IfErr-at_err (IsKeeping c.args.from) (same (Damaged k put got) e) (c.fetch.ensures.fetches.sound there.0 there.1));
       };
-      kept = are_err told T c.fetch.result c.from_residual.result _ _ _ _ c.in_err-digest.was p.1 p.2 wide;
+      kept = kept;
       order = record {
         fits =
             still_in_order w d (same_pages stays.0) (still_fits w.desk d (same_pages stays.0) c.fetch.ensures.fetches.reserved (desk_fits w c.requires.ready.fits))
@@ -124,6 +130,12 @@ unread n from k dest s work put got bytes fetched same is none =
       wrong = inr (subst (λ (x : MachineState). IsNoImage x bytes) same none);
     })
 
+unlike_keeper : (k j : ℕ) (put got : List ℕ) → Keeper k ≡ Damaged j put got → ⊥
+unlike_keeper k j put got e = cc
+
+unlike_memory : (j : ℕ) (put got : List ℕ) → Memory ≡ Damaged j put got → ⊥
+unlike_memory j put got e = cc
+
 pub returns-in-Work-clause-ends : goal.returns-in-Work-clause-ends
 returns-in-Work-clause-ends g c unit journal steps =
     let told = g.K.Storage in
@@ -142,32 +154,33 @@ returns-in-Work-clause-ends g c unit journal steps =
     let T : ℕ → Type 0 = λ k. Contains (levels_named (Copy c.args.n c.args.from c.args.dest)) k in
     let wide = are_wider told _ T c.fetch.result _ _ (λ k e. subst T (sym e) (copy_names_source c.args.n c.args.from c.args.dest)) c.fetch.ensures.fetches.are in
     let pages = same_pages stays.0 ∙ sym c.decode.ensures.pages in
+    let called = called_into_work c.args.n c.args.from c.args.dest _ _ c.in-Work.is c.fetch.ensures.fetches.called in
     record {
       does = record {
         acted = on_ok_weaker c.decode.result (λ decoded. record {
           acts =
               copied_to_work unit journal c.args.n c.args.from c.args.dest old new bytes c.in-Work.is c.in_ok-digest.ensures.fetches.fetched (subst P stays.0 decoded) refl (ap length store)
               (λ j. let same = c.fetch.ensures.fetches.same j in (ap (λ (s : List ShelfState). level_of s j) store, same.1));
-          counted = search rules;
-          called = search rules;
+          counted = counts_none unit steps;
+          called = called;
         }) c.decode.ensures.decoded;
         leaves = on_err c.decode.result (record {
           left = leaves_not_decoded c.args.n c.args.from c.args.dest old.levels new.levels.told c.in-Work.is (λ k. (c.fetch.ensures.fetches.same k).1);
           uncounted = refl;
-          called_at_most = search rules;
+          called_at_most = at_most _ _ _ called;
         });
       };
       caused = record {
-        named = λ k e. (let damaged = IfErr-at_err Unread e c.decode.ensures.damaged in let is = damaged.0 in absurd cc);
+        named = λ k e. absurd (unlike_keeper k _ _ _ (IfErr-at_err Unread e c.decode.ensures.damaged).0);
         damaged = λ k put got e.
             (let damaged = IfErr-at_err Unread e c.decode.ensures.damaged in
             unread c.args.n c.args.from k c.args.dest old fetched.work put got bytes c.in_ok-digest.ensures.fetches.fetched stays.0 damaged.0 damaged.1);
         unreached = λ k j e un. (c.fetch.ensures.fetches.same j).1;
         whole = λ k put got e j. (c.fetch.ensures.fetches.same j).1;
-        wants = search rules;
+        wants = λ e. refl;
       };
       spared = λ recorded short. record {
-        roomy = search rules;
+        roomy = λ roomy e. unlike_memory _ _ _ (IfErr-at_err Unread e c.decode.ensures.damaged).0;
         undamaged = λ first is stands k put got e.
             (let got_is = fetched_image first journal unit now.steps now.slots now.at old c.args.from c.args.n bytes stands c.requires.ready.laid is_held.level is_held.there
             c.in_ok-digest.ensures.fetches.fetched in
@@ -175,8 +188,8 @@ returns-in-Work-clause-ends g c unit journal steps =
             (IfErr-at_err Unread e c.decode.ensures.damaged).1 (unit_states first journal unit c.args.n) state.0 (state.1 ∙ sym (ap (λ (x : MachineState). page_numbers x.memory) stays.0)) (sym got_is));
       };
       kept = are_as told T c.fetch.result c.decode.result _ _
-          (λ k e. (let damaged = IfErr-at_err Unread e c.decode.ensures.damaged in let is = damaged.0 in absurd cc))
-          (λ k e. absurd (cc (e, c.in_ok-digest.was))) wide;
+          (λ k e. absurd (unlike_keeper k _ _ _ (IfErr-at_err Unread e c.decode.ensures.damaged).0))
+          (λ k e. absurd (ok_not c.fetch.result _ k c.in_ok-digest.was e)) wide;
       order = record {
         fits = still_in_order w d pages c.decode.ensures.fits c.requires.ready.fits;
         pages = pages;
@@ -229,7 +242,7 @@ returns-in-Level-clause-ends g c unit journal steps =
               λ i ne. ((c.keep.ensures.keeps.others i ne).0 ∙ (same i).0, (c.keep.ensures.keeps.others i ne).1 ∙ (same i).1),
             );
           };
-          counted = search rules;
+          counted = counts_none unit steps;
           called = called;
         }) c.keep.ensures.keeps.keeps;
         leaves = on_err_weaker c.keep.result (λ left. record {
@@ -242,21 +255,21 @@ returns-in-Level-clause-ends g c unit journal steps =
         named = λ k e.
             (let on = keeping_is_on to k (Keeper k) (IfErr-at_err (IsKeeping to) e c.keep.ensures.keeps.fault) refl in
             subst T (sym on) (copy_names_target c.args.n c.args.from to c.args.dest c.in-Level.is));
-        damaged = search rules;
+        damaged = λ k put got e. absurd (IfErr-at_err (IsKeeping to) e c.keep.ensures.keeps.fault);
         unreached = λ k j e un.
             (let on = keeping_is_on to k (Keeper k) (IfErr-at_err (IsKeeping to) e c.keep.ensures.keeps.fault) refl in
             absurd (copy_came c.args.n c.args.from to k j c.args.dest c.in-Level.is free.0 on un));
-        whole = search rules;
-        wants = search rules;
+        whole = λ k put got e. absurd (IfErr-at_err (IsKeeping to) e c.keep.ensures.keeps.fault);
+        wants = λ e. refl;
       };
       spared = λ recorded short. record {
         roomy = λ roomy e.
             (let rooms = rooms_by told in
             let there = roomy_still bound (rooms c.args.keepers.now.items to) (rooms c.fetch.new.keepers.items to) (c.fetch.ensures.fetches.are.rooms to) (roomy to free.1.level) in
             c.keep.ensures.keeps.roomy bound there (c.in_ok-digest.ensures.fetches.few bound short) e);
-        undamaged = search rules;
+        undamaged = λ first is stands k put got e. IfErr-at_err (IsKeeping to) e c.keep.ensures.keeps.fault;
       };
-      kept = are_then told T c.fetch.result c.keep.result _ _ _ (λ k e. absurd (cc (e, c.in_ok-digest.was))) read written;
+      kept = are_then told T c.fetch.result c.keep.result _ _ _ (λ k. ok_not c.fetch.result _ k c.in_ok-digest.was) read written;
       order = record {
         fits =
             still_in_order w d pages (still_fits fetched d (same_pages kept.0) (same_room kept.1)

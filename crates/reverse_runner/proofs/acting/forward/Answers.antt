@@ -1,9 +1,10 @@
-use Rattle.std.proofs.Common.{◌≡◌, ◌∙◌, ◌-◌, ◌*◌, ℕ, List, Result, Err, length, Contains, rules, refl, ap, sym, subst, arith}
+use Rattle.std.proofs.Common.{◌≡◌, ◌∙◌, ◌-◌, ◌*◌, ℕ, List, Err, length, Contains, refl, ap, sym, subst, arith}
 use Rattle.std.proofs.lemmas.Result.{err_from_is_err_and}
 use Rattle.std.specs.Vec.{vec_capacity}
 use Rattle.plan_types.specs.declared.action.Keep.{Keep}
 use Rattle.plan_types.specs.declared.action.Action.TheVariants.{Forward}
 use Rattle.level_book.specs.Configuration.{Configuration}
+use Rattle.level_book.specs.CostFold.{is_write}
 use Rattle.level_book.specs.Moves.{Goes}
 use Rattle.level_book.specs.Rules.{rule, levels_named}
 use Rattle.rv_pages.specs.Memory.{page_numbers}
@@ -14,13 +15,16 @@ use Rattle.state_image.specs.Image.{image}
 use Rattle.image_store.specs.Calls.{IsKept}
 use Rattle.image_store.specs.Shelves.{ShelfState, level_of}
 use Rattle.reverse_runner.specs.declared.fault.RunFault.{RunFault}
-use Rattle.reverse_runner.specs.declared.fault.RunFault.TheVariants.{Memory}
+use Rattle.reverse_runner.specs.declared.fault.RunFault.TheVariants.{Damaged, Memory}
 use Rattle.reverse_runner.specs.KeepersSeen.{told_by}
 use Rattle.reverse_runner.specs.Rooms.{image_room}
+use Rattle.reverse_runner.specs.VisitorCalls.{calls_keepers}
 use Rattle.reverse_runner.specs.Workspaces.{levels_in, holdings_in}
-use Rattle.reverse_runner.proofs.KeeperCalls.{are_ok, are_err, are_still, are_wider}
+use Rattle.reverse_runner.proofs.AllCalls.{at_most, called_no_keeper, called_stored}
+use Rattle.reverse_runner.proofs.KeeperCalls.{are_ok, are_err, are_still, are_wider, passed}
+use Rattle.reverse_runner.proofs.KeeperFaults.{no_reason, is_safe, keeping_is_whole, keeping_has_reason}
 use Rattle.reverse_runner.proofs.LevelPreconditions.{forward_kept_nothing, forward_stored, forward_taped, store_names, may_keep, stores_free}
-use Rattle.reverse_runner.proofs.ResidueByCalls.{on_err, leaves_stored}
+use Rattle.reverse_runner.proofs.ResidueByCalls.{on_err, not_ok, leaves_stored}
 use Rattle.reverse_runner.proofs.Rooms.{short_same}
 use Rattle.reverse_runner.proofs.SessionTape.{units_kept, units_put}
 use Rattle.reverse_runner.proofs.WorkspaceInvariant.{desk_fits, still_fits, still_in_order, same_pages, same_room}
@@ -46,13 +50,13 @@ returns-in-Nothing-clause-ends g c =
           acts =
               forward_kept_nothing c.args.unit c.args.journal.now c.args.from c.args.to c.args.keep (holdings_in w tells) (holdings_in (record w { desk = d }) tells) c.in-Nothing.is c.advance.ensures.work refl
               (ap length stored) (λ k. (ap (λ (s : List ShelfState). level_of s k) stored, refl));
-          counted = search rules;
-          called = search rules;
+          counted = c.advance.ensures.counted;
+          called = called_no_keeper c.args.from c.args.to c.args.keep _ (λ k. ap (λ (x : Keep). is_write k (Forward c.args.from c.args.to x)) c.in-Nothing.is);
         };
-        leaves = search rules;
+        leaves = tt;
       };
-      caused = search rules;
-      spared = search rules;
+      caused = no_reason _ _ _ _;
+      spared = λ recorded short. is_safe _ _ _ _ _ _ _;
       kept = are_still g.K.Storage _ tt c.args.keepers.now.items;
       order = record {
         fits =
@@ -110,13 +114,13 @@ returns-in_ok-keep-in-Store-clause-ends g c =
                 ap (λ (s : List ShelfState). level_of s j) stored ∙ (c.keep.ensures.keeps.others j ne).0 ∙ ap (λ (s : List ShelfState). level_of s j) images.same.1,
                 (c.keep.ensures.keeps.others j ne).1,
               ));
-          counted = search rules;
-          called = search rules;
+          counted = c.advance-in-Store.ensures.counted;
+          called = called_stored c.args.from c.args.to level c.args.keep _ _ c.in-Store.is c.keep.ensures.keeps.called;
         };
-        leaves = search rules;
+        leaves = tt;
       };
-      caused = search rules;
-      spared = search rules;
+      caused = no_reason _ _ _ _;
+      spared = λ recorded short. is_safe _ _ _ _ _ _ _;
       kept = are_ok told T c.keep.result _ tt _ _ c.in_ok-keep-in-Store.was wide;
       order = record {
         fits =
@@ -135,10 +139,6 @@ returns-in_ok-keep-in-Store-clause-units g c d goes =
     let at = subst G c.in-Store.is goes in
     units_kept c.args.unit now.steps c.args.journal.now now.at d w (record w { desk = c.advance-in-Store.new.self }) refl (ap (λ (x : Configuration). x.tape) at.3) c.requires.units
 
--- a fault that is passed on
-memory_here : (r : Result Unit RunFault) (x y : RunFault) (k : Result Unit RunFault) → r ≡ Err x → x ≡ y → r ≡ Err Memory → k ≡ Err y → k ≡ Err Memory
-memory_here r x y k a b d w = cc
-
 pub returns-in_err-keep-in-Store-clause-ends : goal.returns-in_err-keep-in-Store-clause-ends
 returns-in_err-keep-in-Store-clause-ends g c =
     let told = g.K.Storage in
@@ -155,24 +155,31 @@ returns-in_err-keep-in-Store-clause-ends g c =
     let p = err_from_is_err_and c.from_residual.result c.from_residual.ensures.1 in
     let T : ℕ → Type 0 = λ k. Contains (levels_named (Forward c.args.from c.args.to c.args.keep)) k in
     let wide = are_wider told _ T c.keep.result _ _ (λ k e. subst T (sym e) (store_names c.args.from c.args.to level c.args.keep c.in-Store.is)) c.keep.ensures.keeps.are in
+    let refused = are_err told T c.keep.result c.from_residual.result _ _ _ _ c.in_err-keep-in-Store.was p.1 p.2 wide in
+    let same : (fault : RunFault) → c.from_residual.result ≡ Err fault → c.keep.result ≡ Err fault =
+    λ fault e. passed c.keep.result c.from_residual.result _ _ fault c.in_err-keep-in-Store.was p.1 p.2 e in
     let pages = same_pages images.same.0 ∙ same_pages stays.0 in
     let bound = image_room w.desk.work in
     record {
       does = record {
-        acted = search rules;
-        leaves = on_err c.from_residual.result (record { left = left; uncounted = search rules; called_at_most = search rules });
+        acted = not_ok c.from_residual.result _ _ p.1;
+        leaves = on_err c.from_residual.result (record {
+          left = left;
+          uncounted = refl;
+          called_at_most = at_most _ _ _ (called_stored c.args.from c.args.to level c.args.keep _ _ c.in-Store.is c.keep.ensures.keeps.called);
+        });
       };
-      caused = (let fault = c.keep.ensures.keeps.fault in record { named = search rules; damaged = search rules; unreached = λ k j e un. absurd un; whole = search rules; wants = search rules });
+      caused = keeping_has_reason level c.keep.result c.from_residual.result _ _ _ c.keep.ensures.keeps.fault same (λ k e. (refused.cause k e).0) (λ k j un. un)
+          (ap (λ (x : Keep). calls_keepers (Forward c.args.from c.args.to x)) c.in-Store.is);
       spared = λ recorded short. record {
         roomy = λ roomy e.
-            (let same : c.keep.result ≡ Err Memory = memory_here c.from_residual.result p.0 c.in_err-keep-in-Store.field-0.0 c.keep.result p.1 p.2 e c.in_err-keep-in-Store.was in
-            let now = c.args.config.now in
+            (let now = c.args.config.now in
             let P : Keep → Type 0 = λ k. rule now.steps now.slots now.at (Forward c.args.from c.args.to k) ≡ 0 in
             let free = stores_free now.steps now.slots now.at c.args.from c.args.to level c.requires.ready.sound (subst P c.in-Store.is c.requires.allowed) in
-            c.keep.ensures.keeps.roomy bound (roomy level free.0.level) images.few same);
-        undamaged = search rules;
+            c.keep.ensures.keeps.roomy bound (roomy level free.0.level) images.few (same Memory e));
+        undamaged = λ first is stands k put got e. keeping_is_whole level c.keep.result k put got c.keep.ensures.keeps.fault (same (Damaged k put got) e);
       };
-      kept = are_err told T c.keep.result c.from_residual.result _ _ _ _ c.in_err-keep-in-Store.was p.1 p.2 wide;
+      kept = refused;
       order = record {
         fits = still_in_order w kept pages (still_fits encoded kept (same_pages stays.0) (same_room stays.1) images.fits) c.requires.ready.fits;
         pages = pages;
@@ -200,13 +207,13 @@ returns-in-Tape-clause-ends g c =
               (λ i. record { states = led x.undo.entries x.tape _ on.back i; after = on.tape i })
               (ap length on.stays.2)
               (λ k. (ap (λ (s : List ShelfState). level_of s k) on.stays.2, refl));
-          counted = search rules;
-          called = search rules;
+          counted = on.counted;
+          called = called_no_keeper c.args.from c.args.to c.args.keep _ (λ k. ap (λ (x : Keep). is_write k (Forward c.args.from c.args.to x)) c.in-Tape.is);
         };
-        leaves = search rules;
+        leaves = tt;
       };
-      caused = search rules;
-      spared = search rules;
+      caused = no_reason _ _ _ _;
+      spared = λ recorded short. is_safe _ _ _ _ _ _ _;
       kept = are_still told _ tt c.args.keepers.now.items;
       order = record {
         fits = record {

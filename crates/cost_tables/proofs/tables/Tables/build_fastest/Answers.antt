@@ -1,4 +1,4 @@
-use Rattle.std.proofs.Common.{ℕ, List, [], ◌∷◌, ◌++◌, ◌+◌, ◌<◌, ◌^◌, arith, sym, ap, ◌∙◌, subst, length, Vec}
+use Rattle.std.proofs.Common.{ℕ, List, [], ◌∷◌, ◌++◌, ◌+◌, ◌<◌, ◌≤◌, ◌^◌, All, arith, refl, sym, ap, ◌∙◌, subst, length, Vec}
 use Rattle.std.specs.declared.alloc.Global.{Global}
 use Rattle.level_book.specs.BookCosts.{room}
 use Rattle.level_book.specs.UnderTable.{Tables, IsGreatest, write_cost, read_cost}
@@ -6,11 +6,11 @@ use Rattle.cost_tables.specs.declared.rows.Row.{Row}
 use Rattle.cost_tables.specs.TableRows.{fastest}
 use Rattle.cost_tables.specs.Rows.{AreRows}
 use Rattle.cost_tables.specs.declared.tables.Tables.TheInside.{Inside}
-use Rattle.cost_tables.specs.TableInvariant.{first_in, AreLevelsOf}
+use Rattle.cost_tables.specs.TableInvariant.{first_in, view_of, AreLevelsOf}
 use Rattle.cost_tables.proofs.CellEntries.{fastest_whole}
 use Rattle.cost_tables.proofs.Views.{tables_seen}
 use Rattle.cost_tables.proofs.LevelExtension.{read_level}
-use Rattle.cost_tables.proofs.FastestLevel.{fastest_greatest}
+use Rattle.cost_tables.proofs.FastestLevel.{fastest_greatest, fastest_sizes}
 use Rattle.cost_tables.proofs.tables.Tables.build_fastest.Goals as goal
 
 pub invariant_of-result : goal.invariant_of-result
@@ -22,6 +22,18 @@ invariant_of-result g c =
     let rooms = c.in_ok-push-2.ensures.items ∙ ap (λ (rooms : List ℕ). rooms ++ wide ∷ []) c.new-rooms.ensures.items in
     let From : List (Vec Row Global) → Type 0 = λ levels. AreLevelsOf levels c.in_ok-levels.levels.items in
     fastest_whole made rows wide rooms (subst From (c.deref-2.ensures.value ∙ levels) c.in_ok-levels.ensures) count c.in_ok-rows.ensures.rows.shapes
+
+pub level_rows-requires-clause-base : goal.level_rows-requires-clause-base
+level_rows-requires-clause-base g c = λ κs h.
+    let P : List ℕ → Type 0 = λ base. All (λ n. n ≤ 2 ^ 61) base in
+    subst P (sym c.deref.ensures.value) c.in_ok-base.ensures.low
+
+pub returns-clause-sizes : goal.returns-clause-sizes
+returns-clause-sizes g c =
+    let book = c.args.book.now in let wide = c.room-room.result in
+    let made : Inside = record { steps = c.args.steps; rooms = c.push-2.new.self; levels = c.in_ok-levels.levels } in
+    let rooms = c.in_ok-push-2.ensures.items ∙ ap (λ (rooms : List ℕ). rooms ++ wide ∷ []) c.new-rooms.ensures.items in
+    fastest_sizes c.args.steps book (view_of made) wide (omega arith) refl rooms c.room-room.ensures
 
 pub returns-clause-greatest : goal.returns-clause-greatest
 returns-clause-greatest g c =

@@ -1,4 +1,4 @@
-use Rattle.std.proofs.Common.{◌≡◌, ℕ, List, ◌+◌, ◌<◌, ◌≤◌, ◌^◌, All, arith, sym, ap, ◌∙◌, subst, get_or, length, Vec}
+use Rattle.std.proofs.Common.{◌≡◌, ℕ, List, [], ◌+◌, ◌<◌, ◌≤◌, ◌^◌, All, arith, refl, sym, ap, ◌∙◌, subst, get_or, length, Vec}
 use Rattle.std.specs.declared.alloc.Global.{Global}
 use Rattle.level_book.specs.BookCosts.{room}
 use Rattle.level_book.specs.UnderTable.{Tables, IsGreatest, write_cost, read_cost}
@@ -6,11 +6,11 @@ use Rattle.cost_tables.specs.declared.rows.Row.{Row}
 use Rattle.cost_tables.specs.Entries.{fresh_in}
 use Rattle.cost_tables.specs.Rows.{AreRows, IsRow}
 use Rattle.cost_tables.specs.declared.tables.Tables.TheInside.{Inside}
-use Rattle.cost_tables.specs.TableInvariant.{AreBuilt, rows_at, fresh_at, held_at, AreLevelsOf}
+use Rattle.cost_tables.specs.TableInvariant.{AreBuilt, rows_at, fresh_at, held_at, first_in, AreLevelsOf}
 use Rattle.cost_tables.proofs.CellEntries.{whole_of}
 use Rattle.cost_tables.proofs.Views.{tables_seen}
 use Rattle.cost_tables.proofs.AllLevels.{greatest}
-use Rattle.cost_tables.proofs.LevelExtension.{read_level, built_more, modest}
+use Rattle.cost_tables.proofs.LevelExtension.{read_level, built_none, built_more, modest}
 use Rattle.cost_tables.proofs.tables.Tables.build_with.Goals as goal
 
 pub invariant_of-result : goal.invariant_of-result
@@ -24,6 +24,15 @@ invariant_of-result g c =
     let known : k < c.loop-k.k = omega (arith, are.room_count) in
     let P : ℕ → Type 0 = λ room. All (IsRow room) (rows_at c.loop-k.levels.items k) in
     subst P (sym (are.rooms_are k known)) (are.shapes k known))
+
+pub returns-clause-sizes : goal.returns-clause-sizes
+returns-clause-sizes g c =
+    let are = c.loop-k.invariant in
+    record {
+      steps_are = refl;
+      level_count = omega (arith, are.room_count);
+      rooms_are = λ k lt. are.rooms_are k (omega arith);
+    }
 
 pub returns-clause-greatest : goal.returns-clause-greatest
 returns-clause-greatest g c =
@@ -39,6 +48,28 @@ returns-clause-greatest g c =
     subst P (sym (tables_seen made c.loop-k.levels.items (subst From c.deref-2.ensures.value c.in_ok-levels.ensures)))
     (greatest c.args.steps book (fresh_at c.loop-k.levels.items) (held_at c.loop-k.levels.items) (modest c.args.steps book c.loop-k.k c.loop-k.levels.items c.loop-k.rooms.items c.loop-k.base.items are all few f b)
     (λ k known. are.are_levels k (omega arith)))
+
+pub loop-k-init : goal.loop-k-init
+loop-k-init g c =
+    let steps = c.args.steps in let book = c.args.book.now in let base = c.in_ok-base.base.items in
+    let value : (r : ℕ) → r < steps → get_or base r 0 ≡ first_in (book.forward + book.reverse) r = λ r lt.
+    c.in_ok-base.ensures.value r lt ∙ (λ t. first_in (c.forward-forward.ensures t + c.reverse.ensures t) r) in
+    let L : List (Vec Row Global) → Type 0 = λ levels. AreBuilt steps book 0 levels c.new-rooms.result.items base in
+    let R : List ℕ → Type 0 = λ rooms. AreBuilt steps book 0 [] rooms base in
+    subst L (sym c.new-levels.ensures.items) (subst R (sym c.new-rooms.ensures.items) (built_none steps book base c.in_ok-base.ensures.count c.in_ok-base.ensures.low value))
+
+pub level_rows-requires-clause-few : goal.level_rows-requires-clause-few
+level_rows-requires-clause-few g c = λ κs h. let few = c.requires.fits.few in omega (arith, ap length c.deref.ensures.value, c.loop-k.invariant.base_count)
+
+pub level_rows-requires-clause-base : goal.level_rows-requires-clause-base
+level_rows-requires-clause-base g c = λ κs h.
+    let P : List ℕ → Type 0 = λ base. All (λ n. n ≤ 2 ^ 61) base in
+    subst P (sym c.deref.ensures.value) c.loop-k.invariant.base_low
+
+pub column-requires : goal.column-requires
+column-requires g c =
+    let P : List Row → Type 0 = λ rows. All (IsRow c.room-room.result) rows in
+    subst P (sym c.deref-in-loop-k.ensures.value) c.in_ok-rows.ensures.rows.shapes
 
 pub level_rows-requires-clause-room : goal.level_rows-requires-clause-room
 level_rows-requires-clause-room g c = λ κs h.

@@ -7,7 +7,7 @@ use Rattle.reversal.specs.ActionsLeft.{left_of}
 use Rattle.reversal.specs.Plans.{line_of_action}
 use Rattle.reversal.specs.JobModel.{certificate_pieces, pieces_of}
 use Rattle.reversal.proofs.Pieces.{IsWritten}
-use Rattle.reversal.proofs.planning.Plan.write.Given as goal
+use Rattle.reversal.proofs.planning.Plan.write_all.Given as goal
 
 -- Some pieces were written, and behind them stand those of the actions that are still to come, and the certificate, if there is one.
 abbrev pub invariant-loop-out : goal.invariant-loop-out
