@@ -3,9 +3,12 @@ ghost use Rattle.std.specs.Prelude.{◌≡◌, ◌<◌, ◌≤◌, ◌+◌, ◌-
 ghost use Rattle.plan_types.specs.declared.limits.TheConstants.{MOST_STEPS};
 ghost use Rattle.line_texts.specs.Prelude.{lines, GivesSome};
 ghost use Rattle.level_book.specs.Prelude.{names_of};
-ghost use Rattle.action_text.specs.Tokens.{starts_run};
+ghost use Rattle.action_text.specs.Tokens.{starts_run, is_run_byte};
 ghost use Rattle.action_text.specs.Bytes.{behind_line, ends_line, begins_nothing, run_length, IsWord, behind_word, behind_front};
 ghost use Rattle.action_text.specs.Parser.{text_at, column_at, says_nothing, not_action, number_of, mark_next, end_next, has_line, next_line, IsMark, Takes, TakesWord, line_of};
+ghost use Rattle.action_text.specs.CursorState.{Rest, seen};
+ghost use Rattle.std.proofs.Common.{arith};
+ghost use Rattle.std.proofs.lemmas.Bool.Decides.{nat_tests};
 
 use crate::canonical::action_at;
 use crate::fault::{Parsed, Rule};
@@ -20,17 +23,6 @@ use std::marker::Model;
 pub(crate) struct Cursor<'a> {
     rest: &'a [u8],
     start: usize,
-}
-
-impl<'a> Model for Cursor<'a> {
-    ghost use Rattle.std.specs.Prelude.{◌≤◌, ◌<◌, ◌^◌, length};
-    ghost use Rattle.action_text.specs.CursorState.{Rest, seen};
-
-    ghost Value = { Rest };
-
-    ghost view = { λ c. seen c.start c.rest.now };
-
-    ghost invariant = { λ c. (length c.rest.now ≤ c.start) × (c.start < 2 ^ 31) };
 }
 
 // A run of letters, digits and `_`, and its column.
@@ -196,6 +188,14 @@ impl<'a> Cursor<'a> {
     }
 }
 
+impl<'a> Model for Cursor<'a> {
+    ghost Value = { Rest };
+
+    ghost view = { λ c. seen c.start c.rest.now };
+
+    ghost invariant = { λ c. (length c.rest.now ≤ c.start) × (c.start < 2 ^ 31) };
+}
+
 // The bytes after the first line end.
 #[tactic(auto, unfolding(crate::specs::Bytes::behind_line))]
 fn after_line(bytes: &[u8]) -> Option<&[u8]>
@@ -284,10 +284,6 @@ fn length_of_run(bytes: &[u8]) -> usize
 struct Names;
 
 impl RunBytes for Names {
-    ghost use Rattle.action_text.specs.Tokens.{is_run_byte};
-    ghost use Rattle.std.proofs.Common.{arith};
-    ghost use Rattle.std.proofs.lemmas.Bool.Decides.{nat_tests};
-
     ghost in_run = { is_run_byte };
 
     fn in_run(byte: u8) -> bool {

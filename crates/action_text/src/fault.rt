@@ -1,4 +1,5 @@
 // The rules of a line of a schedule.
+ghost use Rattle.action_text.specs.Parser.{number_of_rule};
 
 use line_texts::{LineFault, Rules};
 
@@ -12,15 +13,13 @@ pub(crate) enum Rule {
     TooMany,
 }
 
-impl Rules for Rule {
-    ghost use Rattle.action_text.specs.Parser.{number_of_rule};
+// What was read from a line, or the line's first fault.
+pub(crate) type Parsed<T> = Result<T, LineFault<Rule>>;
 
+impl Rules for Rule {
     ghost number_of = { number_of_rule };
 
     fn number(self) -> u8 {
         self as u8
     }
 }
-
-// What was read from a line, or the line's first fault.
-pub(crate) type Parsed<T> = Result<T, LineFault<Rule>>;

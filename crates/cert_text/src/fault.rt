@@ -1,4 +1,5 @@
 // The rules of a line of a certificate.
+ghost use Rattle.cert_text.specs.ReaderState.{number_of_rule};
 
 use line_texts::Rules;
 
@@ -10,8 +11,6 @@ pub(crate) enum Rule {
 }
 
 impl Rules for Rule {
-    ghost use Rattle.cert_text.specs.ReaderState.{number_of_rule};
-
     ghost number_of = { number_of_rule };
 
     fn number(self) -> u8 {

@@ -1,7 +1,7 @@
 // The certificate lines of a text, one after the other.
 ghost use Rattle.std.specs.Prelude.{◌≡◌, ◌<◌, ◌+◌, ◌^◌, [], ◌∷◌, length, MatchResult};
 ghost use Rattle.cert_text.specs.Faults.{IsLineFault};
-ghost use Rattle.cert_text.specs.ReaderState.{IsAt, unread};
+ghost use Rattle.cert_text.specs.ReaderState.{IsAt, unread, Unread};
 
 use crate::lines::{MarkedLine, next_marked};
 use crate::words::Words;
@@ -13,17 +13,6 @@ use std::marker::Model;
 pub(crate) struct Reader<'a> {
     rest: &'a [u8],
     before: u32,
-}
-
-impl<'a> Model for Reader<'a> {
-    ghost use Rattle.std.specs.Prelude.{◌+◌, ◌<◌, ◌^◌, length};
-    ghost use Rattle.cert_text.specs.ReaderState.{Unread, unread};
-
-    ghost Value = { Unread };
-
-    ghost view = { λ r. unread r.before r.rest.now };
-
-    ghost invariant = { λ r. r.before + length r.rest.now < 2 ^ 31 };
 }
 
 impl<'a> Reader<'a> {
@@ -75,4 +64,12 @@ impl<'a> Reader<'a> {
             }
         }
     }
+}
+
+impl<'a> Model for Reader<'a> {
+    ghost Value = { Unread };
+
+    ghost view = { λ r. unread r.before r.rest.now };
+
+    ghost invariant = { λ r. r.before + length r.rest.now < 2 ^ 31 };
 }

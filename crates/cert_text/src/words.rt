@@ -6,7 +6,7 @@ ghost use Rattle.cert_text.specs.Grammar.{Want, this_word, number_to, an_entry, 
 ghost use Rattle.cert_text.specs.WordLines.{entry_word};
 ghost use Rattle.cert_text.specs.Meaning.{HasWord};
 ghost use Rattle.cert_text.specs.Faults.{IsWordFault, Names, first_column};
-ghost use Rattle.cert_text.specs.ReaderState.{left, Takes, number_of_rule};
+ghost use Rattle.cert_text.specs.ReaderState.{left, Takes, number_of_rule, Left, left_with};
 
 use crate::fault::Rule;
 use crate::kind::Kind;
@@ -20,14 +20,6 @@ use std::marker::Model;
 pub(crate) struct Words<'a> {
     words: Tokens<'a, NoBlanks>,
     end: u32,
-}
-
-impl<'a> Model for Words<'a> {
-    ghost use Rattle.cert_text.specs.ReaderState.{Left, left_with};
-
-    ghost Value = { Left };
-
-    ghost view = { λ w. left_with w.words w.end };
 }
 
 impl<'a> Words<'a> {
@@ -184,6 +176,12 @@ impl<'a> Words<'a> {
             }),
         }
     }
+}
+
+impl<'a> Model for Words<'a> {
+    ghost Value = { Left };
+
+    ghost view = { λ w. left_with w.words w.end };
 }
 
 // The entry that a text is: a number, or Never, whose word is `-`.

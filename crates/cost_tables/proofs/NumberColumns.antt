@@ -31,6 +31,16 @@ pub least_never : (f : ℕ → ℕ) (n : ℕ) → least_of f n ≤ never_in_memo
 least_never f zero = omega arith
 least_never f (suc n) = let rest = least_never f n in omega arith
 
+pub least_below : (f : ℕ → ℕ) (n i : ℕ) → i < n → least_of f n ≤ f i
+least_below f zero i lt = elim lt [ ]
+least_below f (suc n) i lt =
+    elim (cases_lt i n) [
+      | inl h ↦ let rest = least_below f n i h in omega (arith, rest)
+      | inr h ↦
+          let e : n ≡ i = omega arith in let one : least_of f (suc n) ≤ f n = omega arith in
+          subst (λ i. least_of f (suc n) ≤ f i) e one
+    ]
+
 after_least : (forward : ℕ) (fresh held : ℕ → ℕ) (r low n : ℕ) →
     least_after forward fresh held r low n ≡ least_of (λ i. (low + i + 1) * forward + fresh (r - (low + i + 1)) + held (low + i)) n
 after_least forward fresh held r low zero = refl

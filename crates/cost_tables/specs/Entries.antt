@@ -1,4 +1,4 @@
--- No public clause cites this file. The entries of one level, as numbers in memory. Rows are counted from 0: row r is for
+-- The entries of one level, as numbers in memory. Rows are counted from 0: row r is for
 -- stretches of r + 1 steps.
 use Rattle.std.specs.Prelude.{ℕ, zero, suc, ◌+◌, ◌-◌, ◌*◌, ◌^◌, min, cond, nat_lt, List, [], map, slice_index, slice_index_or}
 use Rattle.level_book.specs.UnderTable.{Entry, number, never}

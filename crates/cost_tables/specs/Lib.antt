@@ -3,6 +3,7 @@ pub mod Shapes
 pub mod TableUpdates
 pub mod ExactTables
 pub mod Laws
+pub mod LevelCosts
 pub mod Entries
 pub mod Levels
 pub mod Rows

@@ -1,7 +1,7 @@
 -- The model of built tables: their entries in rows, and their numbers of steps and slots.
 use Rattle.std.specs.Prelude.{◌≡◌, ℕ, ◌-◌, ◌<◌, ◌≤◌, List, [], length, take, slice_index_or}
 use Rattle.level_book.specs.BookCosts.{BookCosts, room}
-use Rattle.level_book.specs.UnderTable.{Entry, number, never, Tables}
+use Rattle.level_book.specs.UnderTable.{Entry, number, never, Tables, IsGreatest}
 use Rattle.cost_tables.specs.declared.cost.Cost.{Cost}
 use Rattle.cost_tables.specs.declared.cost.Cost.TheVariants.{Number, Never}
 
@@ -31,6 +31,12 @@ pub record AreFor (steps : ℕ) (book : BookCosts) (t : TableRows) : Type 0 wher
 pub record TablesFit (steps : ℕ) (book : BookCosts) : Type 0 where
   pub few : steps ≤ 2048
   pub narrow : (k : ℕ) → k < length book.levels → room book k steps ≤ 64
+
+-- the greatest tables, built for so many steps and the levels of a book
+pub record AreGreatestFor (steps : ℕ) (book : BookCosts) (t : TableRows) : Type 0 where
+  pub fits : TablesFit steps book
+  pub sizes : AreFor steps book t
+  pub greatest : IsGreatest steps book (tables_in t)
 
 -- a book of the fastest level alone
 abbrev pub fastest : BookCosts → BookCosts

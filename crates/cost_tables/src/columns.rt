@@ -6,8 +6,8 @@ ghost use Rattle.cost_tables.specs.Rows.{partial_in, IsRow, IsColumn};
 use crate::rows::{NEVER, Row};
 use std::alloc::{AllocError, Global};
 
-// The least sum of two numbers at the same place.
-fn least_sum(xs: &[u64], ys: &[u64]) -> u64
+/// The least sum of two numbers at the same place, and at most Never's number.
+pub fn least_sum(xs: &[u64], ys: &[u64]) -> u64
     requires long { length xs.now ≡ length ys.now }
     requires xs { All (λ n. n ≤ 2 ^ 61) xs.now }
     requires ys { All (λ n. n ≤ 2 ^ 63) ys.now }

@@ -9,12 +9,15 @@
 mod cells;
 mod columns;
 mod cost;
+mod costs;
 pub mod laws;
 mod rows;
 mod sharing;
 mod tables;
 
 pub use crate::cells::costs_of;
+pub use crate::columns::least_sum;
 pub use crate::cost::{Cost, are_short};
+pub use crate::costs::Costs;
 pub use crate::rows::NEVER;
 pub use crate::tables::Tables;

@@ -4,6 +4,7 @@ ghost use Rattle.cost_tables.specs.declared.rows.TheConstants.{MOST_ROWS, FILLED
 ghost use Rattle.cost_tables.specs.Entries.{fresh_in, held_in, least_after};
 ghost use Rattle.cost_tables.specs.Rows.{split_in, partial_in, cut_of, IsRow, IsNextRow, IsMore, IsPiece, AreRows, AreStarted, AreFew, IsMostlyStarted};
 
+use crate::costs::Costs;
 use crate::sharing::{Pieces, joined, start_rows};
 use plan_types::Gate;
 use std::alloc::{AllocError, Global};
@@ -18,21 +19,6 @@ pub const NEVER: u64 = 2305843009213693952;
 pub struct Row {
     pub fresh: Vec<u64>,
     pub held: Vec<u64>,
-}
-
-// The most rows that are shared at a time: 64, and one for each 16 filled rows, plus one. Workers start anew each time.
-// The caller does the splits that use unfilled rows. The first rows are shared one at a time, so these splits are at
-// most one in eight.
-const MOST_ROWS: usize = 64;
-
-const FILLED_ROWS: usize = 16;
-
-// The costs of a forward step, and of an image on a level.
-#[derive(Clone, Copy)]
-pub(crate) struct Costs {
-    pub(crate) forward: u64,
-    pub(crate) write: u64,
-    pub(crate) read: u64,
 }
 
 // The least that the splits of row r from `low` on and before `high` cost at m free slots.
@@ -178,6 +164,13 @@ fn push_rows(
     }
     Ok(())
 }
+
+// The most rows that are shared at a time: 64, and one for each 16 filled rows, plus one. Workers start anew each time.
+// The caller does the splits that use unfilled rows. The first rows are shared one at a time, so these splits are at
+// most one in eight.
+const MOST_ROWS: usize = 64;
+
+const FILLED_ROWS: usize = 16;
 
 // How many of the remaining rows are shared next.
 fn shared_rows(filled: usize, left: usize) -> usize

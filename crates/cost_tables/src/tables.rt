@@ -1,16 +1,17 @@
 // Tables of least costs.
 ghost use Rattle.std.specs.Prelude.{◌≡◌, ◌↔◌, ℕ, ◌+◌, ◌^◌, ◌<◌, ◌≤◌, true, length, All, IfOk, slice_index};
 ghost use Rattle.level_book.specs.Prelude.{IsGreatest};
-ghost use Rattle.cost_tables.specs.TableRows.{AreFor, TablesFit, FastestTablesFit, fastest, tables_in, value_of};
+ghost use Rattle.cost_tables.specs.TableRows.{AreFor, AreGreatestFor, TablesFit, FastestTablesFit, fastest, tables_in, value_of, TableRows};
 ghost use Rattle.cost_tables.specs.Shapes.{AreShaped, AreShort};
 ghost use Rattle.cost_tables.specs.TableUpdates.{AreAllNever, IsOther};
 ghost use Rattle.cost_tables.specs.Entries.{fresh_in};
 ghost use Rattle.cost_tables.specs.Rows.{IsRow};
-ghost use Rattle.cost_tables.specs.TableInvariant.{first_in};
+ghost use Rattle.cost_tables.specs.TableInvariant.{first_in, view_of, AreWhole};
 
 use crate::cells::{Cells, levels_of, never_cells, short_levels};
 use crate::cost::Cost;
-use crate::rows::{Costs, NEVER, Row, level_rows};
+use crate::costs::Costs;
+use crate::rows::{NEVER, Row, level_rows};
 use level_book::Book;
 use plan_types::{Gate, NoGate};
 use std::alloc::{AllocError, Global};
@@ -30,18 +31,6 @@ pub struct Tables {
     steps: u32,
     rooms: Vec<u32>,
     levels: Vec<Vec<Cells>>,
-}
-
-impl Model for Tables {
-    ghost use Rattle.cost_tables.specs.TableRows.{TableRows};
-
-    ghost Value = { TableRows };
-
-    ghost use Rattle.cost_tables.specs.TableInvariant.{view_of, AreWhole};
-
-    ghost view = { view_of };
-
-    ghost invariant = { AreWhole };
 }
 
 impl Tables {
@@ -71,8 +60,7 @@ impl Tables {
     ) -> Result<Tables, AllocError>
         requires fits { TablesFit steps book.now }
         requires workers { (1 ≤ workers) × (workers ≤ 64) }
-        ensures sizes { IfOk result (AreFor steps book.now) }
-        ensures greatest { IfOk result (λ t. IsGreatest steps book.now (tables_in t)) }
+        ensures { IfOk result (AreGreatestFor steps book.now) }
     {
         Tables::build_with(rt, alloc, steps, book, workers, &NoGate)
     }
@@ -89,21 +77,13 @@ impl Tables {
     ) -> Result<Tables, AllocError>
         requires fits { TablesFit steps book.now }
         requires workers { (1 ≤ workers) × (workers ≤ 64) }
-        ensures sizes { IfOk result (AreFor steps book.now) }
-        ensures greatest { IfOk result (λ t. IsGreatest steps book.now (tables_in t)) }
+        ensures { IfOk result (AreGreatestFor steps book.now) }
     {
-        let forward = book.forward() as u64;
-        let mut base = first_base(alloc, steps, forward + book.reverse() as u64)?;
+        let mut base = first_base(alloc, steps, book.forward() as u64 + book.reverse() as u64)?;
         let mut levels = Vec::new(alloc);
         let mut rooms = Vec::new(alloc);
         for k in 0..book.levels() {
-            let level = book.level(k);
             let room = book.room(k, steps);
-            let costs = Costs {
-                forward,
-                write: level.write as u64,
-                read: level.read as u64,
-            };
             let rows = level_rows(
                 rt,
                 alloc,
@@ -111,7 +91,7 @@ impl Tables {
                 workers as usize,
                 &base,
                 room as usize,
-                costs,
+                Costs::of(book, k),
             )?;
             base = column(alloc, &rows, room as usize)?;
             levels.push(rows)?;
@@ -149,15 +129,9 @@ impl Tables {
         ensures greatest { IfOk result (λ t. IsGreatest steps (fastest book.now) (tables_in t)) }
     {
         let _levels = book.levels();
-        let forward = book.forward() as u64;
-        let level = book.level(0);
         let room = book.room(0, steps);
-        let costs = Costs {
-            forward,
-            write: level.write as u64,
-            read: level.read as u64,
-        };
-        let base = first_base(alloc, steps, forward + book.reverse() as u64)?;
+        let costs = Costs::of(book, 0);
+        let base = first_base(alloc, steps, costs.forward + costs.reverse)?;
         let rows = level_rows(
             rt,
             alloc,
@@ -304,13 +278,6 @@ impl Tables {
         short_levels(&self.levels);
     }
 
-    /// The number of steps of the tables.
-    pub fn steps(&self) -> u32
-        ensures { result ≡ self.now.steps }
-    {
-        self.steps
-    }
-
     /// The number of levels.
     pub fn levels(&self) -> u8
         ensures value { result ≡ length self.now.rooms }
@@ -326,6 +293,21 @@ impl Tables {
     {
         self.rooms[k as usize]
     }
+
+    /// The number of steps of the tables.
+    pub fn steps(&self) -> u32
+        ensures { result ≡ self.now.steps }
+    {
+        self.steps
+    }
+}
+
+impl Model for Tables {
+    ghost Value = { TableRows };
+
+    ghost view = { view_of };
+
+    ghost invariant = { AreWhole };
 }
 
 // The costs of stretches without an image: one step alone.

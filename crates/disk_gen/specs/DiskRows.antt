@@ -2,8 +2,8 @@
 use Rattle.std.specs.Prelude.{◌≡◌, ℕ, ◌-◌, ◌<◌, ◌≤◌, List, slice_index_or}
 use Rattle.level_book.specs.BookCosts.{BookCosts, room}
 use Rattle.level_book.specs.UnderTable.{Entry, number, never}
-use Rattle.level_book.specs.DiskUnderTable.{DiskTables}
-use Rattle.cost_tables.specs.TableRows.{TableRows, AreFor, fastest, tables_in}
+use Rattle.level_book.specs.DiskUnderTable.{DiskTables, IsGreatestDisk}
+use Rattle.cost_tables.specs.TableRows.{TableRows, AreFor, FastestTablesFit, fastest, tables_in}
 use Rattle.disk_gen.specs.DiskPlans.{HasDiskPlan}
 
 -- The tables of level 0, as if the book had no other, and the entries over both levels. There is an entry for each
@@ -30,6 +30,12 @@ AreDiskSized steps book t = AreFor steps (fastest book) t.fast
 pub record AreDiskFor (steps : ℕ) (book : BookCosts) (t : DiskRows) : Type 0 where
   pub sized : AreDiskSized steps book t
   pub plan : HasDiskPlan book
+
+-- the greatest disk tables, built for so many steps and a book
+pub record AreGreatestDiskFor (steps : ℕ) (book : BookCosts) (t : DiskRows) : Type 0 where
+  pub fits : FastestTablesFit steps book
+  pub sizes : AreDiskFor steps book t
+  pub greatest : IsGreatestDisk steps book (disk_tables_in t)
 
 -- each entry for at most so many steps and a book is Never
 pub record AreAllNeverDisk (steps : ℕ) (book : BookCosts) (t : DiskTables) : Type 0 where

@@ -1,8 +1,8 @@
 // The list for memory and an unlimited disk, as it is read from the disk tables.
 ghost use Rattle.std.specs.Prelude.{◌≡◌, ◌≢◌, ◌<◌, ◌≤◌, ◌+◌, ◌-◌, ◌*◌, ◌^◌, ℕ, true, false, IfOk, slice_index};
-ghost use Rattle.level_book.specs.Prelude.{slots_of, cost, Disk, IsGreatestDisk, disk_top_entry, number, sum_of};
-ghost use Rattle.cost_tables.specs.Prelude.{FastestTablesFit, value_of};
-ghost use Rattle.disk_gen.specs.DiskRows.{AreDiskFor, disk_tables_in};
+ghost use Rattle.level_book.specs.Prelude.{slots_of, cost, Disk, disk_top_entry, number, sum_of};
+ghost use Rattle.cost_tables.specs.Prelude.{value_of};
+ghost use Rattle.disk_gen.specs.DiskRows.{AreGreatestDiskFor, disk_tables_in};
 ghost use Rattle.disk_gen.specs.DiskRevolveList.{IsDiskWritten};
 ghost use Rattle.disk_gen.specs.ReadableDiskTables.{CanReadDisk, IsHeldMore, IsDiskMore};
 
@@ -20,9 +20,7 @@ pub fn disk_list(
     steps: u32,
     book: &Book,
 ) -> Result<Vec<Action>, AllocError>
-    requires fits { FastestTablesFit steps book.now }
-    requires sizes { AreDiskFor steps book.now tables.now }
-    requires greatest { IsGreatestDisk steps book.now (disk_tables_in tables.now) }
+    requires { AreGreatestDiskFor steps book.now tables.now }
     ensures list { IfOk result (λ list. IsDiskWritten steps book.now (disk_tables_in tables.now) list.items) }
     ensures disk { IfOk result (λ list. Disk steps (slots_of book.now) list.items) }
     ensures cost { IfOk result (λ list. disk_top_entry steps (disk_tables_in tables.now) ≡ number (cost list.items book.now)) }

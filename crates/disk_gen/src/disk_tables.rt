@@ -1,15 +1,15 @@
 // Tables of least costs over two levels, the slow one unlimited.
 ghost use Rattle.std.specs.Prelude.{◌≡◌, ◌≢◌, ◌↔◌, ℕ, ◌+◌, ◌-◌, ◌<◌, ◌≤◌, ◌^◌, true, All, length, map, IfOk, IfErr, OnOk, slice_index};
-ghost use Rattle.level_book.specs.Prelude.{number, IsGreatestDisk};
+ghost use Rattle.level_book.specs.Prelude.{number};
 ghost use Rattle.cost_tables.specs.Prelude.{entry, least_split, FastestTablesFit, tables_in, value_of, IsOther};
 ghost use Rattle.disk_gen.specs.DiskPlans.{HasDiskPlan, IsDiskFault};
-ghost use Rattle.disk_gen.specs.DiskRows.{AreDiskSized, AreDiskFor, AreAllNeverDisk, disk_tables_in};
+ghost use Rattle.disk_gen.specs.DiskRows.{AreDiskSized, AreGreatestDiskFor, AreAllNeverDisk, disk_tables_in, DiskRows};
 ghost use Rattle.disk_gen.specs.DiskShapes.{AreDiskShaped, AreDiskShort};
-ghost use Rattle.disk_gen.specs.DiskInvariant.{IsHeldColumn, IsFreshColumn};
+ghost use Rattle.disk_gen.specs.DiskInvariant.{IsHeldColumn, IsFreshColumn, view_of, AreWholeDisk};
 
 use cost_tables::{Cost, NEVER, Tables, are_short, costs_of};
 use level_book::{Book, Slots};
-use revolve_gen::GenFault;
+use revolve_gen::{GenFault, Planned};
 use std::alloc::{AllocError, Global};
 use std::marker::Model;
 use std::thread::Threads;
@@ -20,18 +20,6 @@ pub struct DiskTables {
     fast: Tables,
     disk_fresh: Vec<Cost>,
     disk_held: Vec<Cost>,
-}
-
-impl Model for DiskTables {
-    ghost use Rattle.disk_gen.specs.DiskRows.{DiskRows};
-
-    ghost Value = { DiskRows };
-
-    ghost use Rattle.disk_gen.specs.DiskInvariant.{view_of, AreWholeDisk};
-
-    ghost view = { view_of };
-
-    ghost invariant = { AreWholeDisk };
 }
 
 impl DiskTables {
@@ -50,11 +38,10 @@ impl DiskTables {
         steps: u32,
         book: &Book,
         workers: u32,
-    ) -> Result<DiskTables, GenFault>
+    ) -> Planned<DiskTables>
         requires fits { FastestTablesFit steps book.now }
         requires workers { (1 ≤ workers) × (workers ≤ 64) }
-        ensures sizes { IfOk result (AreDiskFor steps book.now) }
-        ensures greatest { IfOk result (λ t. IsGreatestDisk steps book.now (disk_tables_in t)) }
+        ensures tables { IfOk result (AreGreatestDiskFor steps book.now) }
         ensures plan { OnOk result (HasDiskPlan book.now) }
         ensures refused { IfErr result (IsDiskFault book.now) }
     {
@@ -64,10 +51,7 @@ impl DiskTables {
         if book.level(1).slots != Slots::Unlimited {
             return Err(GenFault::NoPlan(3));
         }
-        match filled(rt, alloc, steps, book, workers) {
-            Ok(tables) => Ok(tables),
-            Err(_) => Err(GenFault::Memory),
-        }
+        Ok(filled(rt, alloc, steps, book, workers)?)
     }
 
     /// Tables with every entry Never, to be filled entry by entry. The book may also be one without a greatest table,
@@ -239,6 +223,14 @@ impl DiskTables {
     }
 }
 
+impl Model for DiskTables {
+    ghost Value = { DiskRows };
+
+    ghost view = { view_of };
+
+    ghost invariant = { AreWholeDisk };
+}
+
 // So many entries, each of them Never.
 fn never_costs(alloc: Global, count: u32) -> Result<Vec<Cost>, AllocError>
     ensures count { IfOk result (λ costs. length costs.items ≡ count) }
@@ -262,8 +254,7 @@ fn filled<R: Threads + Sync>(
     requires fits { FastestTablesFit steps book.now }
     requires workers { (1 ≤ workers) × (workers ≤ 64) }
     requires plan { HasDiskPlan book.now }
-    ensures sizes { IfOk result (AreDiskFor steps book.now) }
-    ensures greatest { IfOk result (λ t. IsGreatestDisk steps book.now (disk_tables_in t)) }
+    ensures { IfOk result (AreGreatestDiskFor steps book.now) }
 {
     book.is_within_limits();
     let fast = Tables::build_fastest(rt, alloc, steps, book, workers)?;

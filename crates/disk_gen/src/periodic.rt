@@ -1,14 +1,16 @@
 // The periodic list, one action at a time and as a whole.
-ghost use Rattle.std.specs.Prelude.{◌≡◌, ◌≤◌, [], ◌∷◌, MatchOption, IfOk, IfErr, OnOk};
+ghost use Rattle.std.specs.Prelude.{◌≡◌, ◌≤◌, [], ◌∷◌, MatchOption, IfOk, IfErr, OnOk, List, ◌++◌};
 ghost use Rattle.plan_types.specs.declared.limits.TheConstants.{MOST_STEPS};
+ghost use Rattle.plan_types.specs.declared.action.Action.{Action};
 ghost use Rattle.disk_gen.specs.PeriodicList.{periodic_list};
 ghost use Rattle.disk_gen.specs.Plans.{HasPeriodicPlan, IsFault};
+ghost use Rattle.disk_gen.specs.Remainder.{owed_behind, IsOwing};
 
 use crate::phase::{Phase, next_behind};
 use crate::plans::planned_images;
 use level_book::Book;
 use plan_types::Action;
-use revolve_gen::{GenFault, StretchStream};
+use revolve_gen::{Planned, StretchStream};
 use std::alloc::Global;
 use std::marker::Model;
 
@@ -22,22 +24,10 @@ pub struct Periodic {
     phase: Phase,
 }
 
-impl Model for Periodic {
-    ghost use Rattle.std.specs.Prelude.{List, ◌++◌};
-    ghost use Rattle.plan_types.specs.declared.action.Action.{Action};
-    ghost use Rattle.disk_gen.specs.Remainder.{owed_behind, IsOwing};
-
-    ghost Value = { List Action };
-
-    ghost view = { λ p. p.stretch.actions ++ owed_behind p.period p.last p.stretch.slots p.phase };
-
-    ghost invariant = { λ p. IsOwing p.period p.last p.stretch.levels p.stretch.slots p.phase };
-}
-
 impl Periodic {
     /// The list for so many steps, with an image on level 1 every `period` steps. Its stack has room for an entry for
     /// each slot of level 0.
-    pub fn new(alloc: Global, steps: u32, period: u32, book: &Book) -> Result<Periodic, GenFault>
+    pub fn new(alloc: Global, steps: u32, period: u32, book: &Book) -> Planned<Periodic>
         requires short { steps ≤ MOST_STEPS }
         requires some { 1 ≤ period }
         requires small { period ≤ MOST_STEPS }
@@ -47,9 +37,7 @@ impl Periodic {
     {
         let images = planned_images(steps, period, book)?;
         let slots = book.room(0, steps);
-        let Ok(room) = Vec::with_capacity(alloc, slots as usize) else {
-            return Err(GenFault::Memory);
-        };
+        let room = Vec::with_capacity(alloc, slots as usize)?;
         let mut stretch = StretchStream::on_fastest(slots, room);
         let last = steps - images * period;
         if images > 0 {
@@ -87,13 +75,16 @@ impl Periodic {
     }
 }
 
+impl Model for Periodic {
+    ghost Value = { List Action };
+
+    ghost view = { λ p. p.stretch.actions ++ owed_behind p.period p.last p.stretch.slots p.phase };
+
+    ghost invariant = { λ p. IsOwing p.period p.last p.stretch.levels p.stretch.slots p.phase };
+}
+
 /// The whole list.
-pub fn periodic_list(
-    alloc: Global,
-    steps: u32,
-    period: u32,
-    book: &Book,
-) -> Result<Vec<Action>, GenFault>
+pub fn periodic_list(alloc: Global, steps: u32, period: u32, book: &Book) -> Planned<Vec<Action>>
     requires short { steps ≤ MOST_STEPS }
     requires some { 1 ≤ period }
     requires small { period ≤ MOST_STEPS }
@@ -103,13 +94,9 @@ pub fn periodic_list(
 {
     let mut stream = Periodic::new(alloc, steps, period, book)?;
     // Four actions a step, and two for no steps.
-    let Ok(mut list) = Vec::with_capacity(alloc, (4 * steps as usize).max(2)) else {
-        return Err(GenFault::Memory);
-    };
+    let mut list = Vec::with_capacity(alloc, (4 * steps as usize).max(2))?;
     while let Some(action) = stream.next() {
-        if list.push(action).is_err() {
-            return Err(GenFault::Memory);
-        }
+        list.push(action)?;
     }
     Ok(list)
 }

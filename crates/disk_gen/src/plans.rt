@@ -5,7 +5,7 @@ ghost use Rattle.disk_gen.specs.PeriodicList.{images};
 ghost use Rattle.disk_gen.specs.Plans.{HasPeriodicPlan, IsFault};
 
 use level_book::{Book, Slots};
-use revolve_gen::GenFault;
+use revolve_gen::{GenFault, Planned};
 
 // How many images the slower level has.
 fn images(steps: u32, period: u32) -> u32
@@ -18,7 +18,7 @@ fn images(steps: u32, period: u32) -> u32
 }
 
 // How many images the slower level has, where there is a plan.
-pub(crate) fn planned_images(steps: u32, period: u32, book: &Book) -> Result<u32, GenFault>
+pub(crate) fn planned_images(steps: u32, period: u32, book: &Book) -> Planned<u32>
     requires short { steps ≤ MOST_STEPS }
     requires some { 1 ≤ period }
     requires small { period ≤ MOST_STEPS }

@@ -21,11 +21,11 @@ const EM_RISCV: u16 = 243;
 #[derive(Clone, Copy)]
 pub(crate) struct Header {
     /// The address of the first instruction.
-    pub(crate) entry: u32,
+    pub entry: u32,
     /// Where the program headers are in the file.
-    pub(crate) offset: u32,
+    pub offset: u32,
     /// How many program headers there are.
-    pub(crate) count: u16,
+    pub count: u16,
 }
 
 /// Reads a file's header, if the file is ELF for the machine and has all its program headers.

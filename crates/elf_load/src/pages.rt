@@ -14,8 +14,8 @@ const STACK_END: u64 = 0xC0000;
 /// A run of pages, from the first to the last.
 #[derive(Clone, Copy)]
 pub(crate) struct Span {
-    pub(crate) first: u64,
-    pub(crate) last: u64,
+    pub first: u64,
+    pub last: u64,
 }
 
 impl Span {

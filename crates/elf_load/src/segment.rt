@@ -18,11 +18,11 @@ const SIZE: usize = 32;
 /// A load segment: the index of its header, and where its bytes are in the file and in memory.
 #[derive(Clone, Copy)]
 pub(crate) struct Segment {
-    pub(crate) index: u32,
-    pub(crate) offset: u32,
-    pub(crate) address: u32,
-    pub(crate) file_size: u32,
-    pub(crate) memory_size: u32,
+    pub index: u32,
+    pub offset: u32,
+    pub address: u32,
+    pub file_size: u32,
+    pub memory_size: u32,
 }
 
 impl Segment {

@@ -1,6 +1,8 @@
 // A line in memory.
-ghost use Rattle.std.specs.Prelude.{◌≡◌, ◌≤◌, ◌<◌, [], length, take, IfOk};
+ghost use Rattle.std.specs.Prelude.{◌≡◌, ◌≤◌, ◌<◌, [], length, take, IfOk, drop};
+ghost use Rattle.std.specs.Vec.{vec_len};
 ghost use Rattle.gdb_line.specs.Talk.{Comes};
+ghost use Rattle.gdb_line.specs.LineState.{LineState};
 
 use crate::line::{Line, LineFault};
 use keepers::{MemorySink, Sink};
@@ -11,29 +13,10 @@ use std::marker::Model;
 /// numbered from 1.
 #[derive(Drop)]
 pub struct MemoryLine {
+    most: usize,
     bytes: Vec<u8>,
     taken: usize,
-    most: usize,
     out: MemorySink,
-}
-
-impl Model for MemoryLine {
-    ghost use Rattle.std.specs.Prelude.{◌≤◌, ◌<◌, take, drop};
-    ghost use Rattle.std.specs.Vec.{vec_len};
-    ghost use Rattle.gdb_line.specs.LineState.{LineState};
-
-    ghost Value = { LineState };
-
-    ghost view = { λ l. record {
-      talk = record { came = take l.taken l.bytes.items; left = drop l.taken l.bytes.items; went = l.out.bytes };
-      most = l.most;
-      room = l.out.room;
-      failing = l.out.failing;
-      calls = l.out.calls;
-      faults = l.out.faults;
-    } };
-
-    ghost invariant = { λ l. (l.taken ≤ vec_len l.bytes) × (0 < l.most) };
 }
 
 impl MemoryLine {
@@ -91,6 +74,21 @@ impl MemoryLine {
         self.taken += count;
         count
     }
+}
+
+impl Model for MemoryLine {
+    ghost Value = { LineState };
+
+    ghost view = { λ l. record {
+      talk = record { came = take l.taken l.bytes.items; left = drop l.taken l.bytes.items; went = l.out.bytes };
+      most = l.most;
+      room = l.out.room;
+      failing = l.out.failing;
+      calls = l.out.calls;
+      faults = l.out.faults;
+    } };
+
+    ghost invariant = { λ l. (l.taken ≤ vec_len l.bytes) × (0 < l.most) };
 }
 
 impl Line for MemoryLine {

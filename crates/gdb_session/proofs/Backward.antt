@@ -1,5 +1,5 @@
 -- A server's move backward, part by part.
-use Rattle.std.proofs.Common.{◌≡◌, ℕ, ◌≤◌, ◌<◌, true, List, [], Option, None, Some, IfSome, MatchOption, refl, sym, ap, subst, ◌∙◌, arith}
+use Rattle.std.proofs.Common.{◌≡◌, ℕ, ◌≤◌, ◌<◌, true, List, [], Option, None, Some, MatchOption, refl, sym, ap, subst, ◌∙◌, arith}
 use Rattle.keepers.specs.Counts.{Rose}
 use Rattle.keepers.specs.Claims.{Tells}
 use Rattle.gdb_line.specs.Talk.{Talk}
@@ -43,13 +43,13 @@ back_begins s end x e = record {
 }
 
 -- something was hit
-pub at_found : (s t : Server) (end from at : ℕ) (x y : Option Talk) (o : Option (ℕ × Hit)) (hit : Hit) (look go : Debugger) → BackWay s t end x y → o ≡ Some (at, hit) → Looked t.session end from o → IfSome o (λ found. found.0 ≤ end) →
+pub at_found : (s t : Server) (end from at : ℕ) (x y : Option Talk) (o : Option (ℕ × Hit)) (hit : Hit) (look go : Debugger) → BackWay s t end x y → o ≡ Some (at, hit) → Looked t.session end from o →
     look ≡ record t.session { place = end } → GoesTo look at go → (at ≤ look.place → go.place ≡ at) →
     Tells x y (λ a b. IsMoved s (record t { session = go }) motion.ContinueBack (hit_halt (Some hit) AtBeginning) [] × Does s (record t { session = go }) [] a b)
-at_found s t end from at x y o hit look go way is looked near looks goes known =
+at_found s t end from at x y o hit look go way is looked looks goes known =
     let found : ℕ × Hit = (at, hit) in
     let ends : EndsBackward s.session.run s.session.stops end at (Some hit) = subst (λ (p : Option (ℕ × Hit)). Looked s.session end from p) is (looked_there s t end from x y o way looked) in
-    let le : at ≤ end = subst (λ (p : Option (ℕ × Hit)). IfSome p (λ found. found.0 ≤ end)) is near in
+    let le : at ≤ end = ends.0 in
     let there : look.place ≡ end = ap (λ (d : Debugger). d.place) looks in
     let session : go ≡ record s.session { place = go.place } =
     again_elsewhere s.session look go end (looks ∙ ap (λ (d : Debugger). record d { place = end }) way.session) goes.0 in

@@ -5,7 +5,7 @@ use Rattle.rv_machine.specs.MachineState.{MachineState}
 use Rattle.gdb_wire.specs.declared.request.StopKind.{StopKind}
 use Rattle.gdb_wire.specs.declared.request.StopKind.TheVariants.{Breakpoint, WriteWatch}
 use Rattle.run_timeline.specs.Moves.{Run, StopList, state}
-use Rattle.run_timeline.specs.declared.stops.Range.{Range}
+use Rattle.run_timeline.specs.declared.ranges.Range.{Range}
 
 pub record Debugger : Type 0 where
   pub run : Run

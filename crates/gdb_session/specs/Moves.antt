@@ -10,7 +10,7 @@ use Rattle.gdb_replies.specs.StateWords.{hexadecimal, ending_line}
 use Rattle.run_timeline.specs.Moves.{Run, StopList, state, EndsForward, EndsBackward, CameOn, CameBack, step_ahead, step_behind, steps_of}
 use Rattle.run_timeline.specs.declared.stops.Hit.{Hit}
 use Rattle.run_timeline.specs.declared.stops.Hit.TheVariants.{Break, Watch}
-use Rattle.run_timeline.specs.declared.stops.Range.{Range}
+use Rattle.run_timeline.specs.declared.ranges.Range.{Range}
 use Rattle.run_timeline.specs.declared.stops.Step.{Step}
 use Rattle.run_timeline.specs.declared.stops.Step.TheVariants.{Went, Watched, End}
 use Rattle.gdb_session.specs.declared.halt.Halt.{Halt}

@@ -5,7 +5,7 @@ use Rattle.gdb_wire.specs.declared.request.Request.{Request}
 use Rattle.gdb_wire.specs.declared.request.Request.TheVariants.{Move, Kill}
 use Rattle.run_timeline.specs.Moves.{Run, StopList, CameOn}
 use Rattle.run_timeline.specs.WalkState.{run_code}
-use Rattle.run_timeline.specs.declared.stops.Range.{Range}
+use Rattle.run_timeline.specs.declared.ranges.Range.{Range}
 use Rattle.gdb_session.specs.declared.server.ServeFault.{ServeFault}
 use Rattle.gdb_session.specs.declared.server.ServeFault.TheVariants as fault
 use Rattle.gdb_session.specs.declared.server.TalkFault.{TalkFault}

@@ -1,5 +1,5 @@
 // What a session is at, and what it answers to requests that don't move.
-ghost use Rattle.std.specs.Prelude.{◌≡◌, ◌<◌, ◌≤◌, ◌+◌, ℕ, List, ⊤, ◌∷◌, [], ◌++◌, IfOk, IfSome, MatchOption, OnOk, Some, codes, false, ◌^◌, slice_get};
+ghost use Rattle.std.specs.Prelude.{◌≡◌, ◌<◌, ◌≤◌, ◌+◌, ℕ, List, ⊤, ◌∷◌, [], ◌++◌, IfOk, MatchOption, OnOk, Some, codes, false, ◌^◌, slice_get};
 ghost use Rattle.std.specs.Option.{option_map_or};
 ghost use Rattle.input_journal.specs.Prelude.{IsRecorded};
 ghost use Rattle.rv_machine.specs.Prelude.{IsMachineState};
@@ -7,10 +7,10 @@ ghost use Rattle.run_timeline.specs.Prelude.{CameBack, CameOn, EndsBackward, End
 ghost use Rattle.gdb_replies.specs.declared.command.Command.{Command};
 ghost use Rattle.gdb_replies.specs.Prelude.{IsCommand, ending_line, hexadecimal, place_line};
 ghost use Rattle.gdb_session.specs.Answers.{Answers, GoesTo, Obeys, piece_text, shown_text};
-ghost use Rattle.gdb_session.specs.Debugger.{new_debugger, shown as shown_state, inserted, removed, with_one, without_one};
+ghost use Rattle.gdb_session.specs.Debugger.{new_debugger, shown as shown_state, inserted, removed, with_one, without_one, Debugger};
 ghost use Rattle.gdb_session.specs.declared.halt.Halt.TheVariants.{AtWrite};
 ghost use Rattle.gdb_session.specs.Moves.{halt_text, output_from};
-ghost use Rattle.gdb_session.specs.SessionFields.{CameHere, IsAnswered};
+ghost use Rattle.gdb_session.specs.SessionFields.{CameHere, IsAnswered, debugger, debugger_code};
 
 use crate::halt::Halt;
 use gdb_replies::{
@@ -38,18 +38,6 @@ pub struct Session {
     pub(crate) stops: Stops,
     pub(crate) acks: bool,
     pub(crate) quiet: bool,
-}
-
-impl Model for Session {
-    ghost use Rattle.gdb_session.specs.Debugger.{Debugger};
-
-    ghost Value = { Debugger };
-
-    ghost use Rattle.gdb_session.specs.SessionFields.{debugger, debugger_code};
-
-    ghost coded = { debugger_code };
-
-    ghost view = { debugger };
 }
 
 impl Session {
@@ -177,7 +165,6 @@ impl Session {
         requires some { 0 < end }
         requires known { end ≤ self.old.place }
         ensures from { result.0 < end }
-        ensures near { IfSome result.1 (λ found. found.0 ≤ end) }
         ensures ends { MatchOption result.1 (CameBack self.old.run self.old.stops end result.0)
             (λ found. EndsBackward self.old.run self.old.stops end found.0 (Some found.1)) }
         ensures stays { self.new ≡ record self.old { place = end } }
@@ -365,6 +352,14 @@ impl Session {
     {
         push_place_line(shown, self.timeline.place(), self.state())
     }
+}
+
+impl Model for Session {
+    ghost Value = { Debugger };
+
+    ghost coded = { debugger_code };
+
+    ghost view = { debugger };
 }
 
 // So many bytes from an address on.

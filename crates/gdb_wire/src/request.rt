@@ -1,5 +1,5 @@
 // What gdb asks for.
-ghost use Rattle.std.specs.Prelude.{◌≡◌};
+ghost use Rattle.std.specs.Prelude.{◌≡◌, ℕ, List};
 
 use std::marker::Model;
 
@@ -70,14 +70,6 @@ pub struct Command {
     pub(crate) text: Vec<u8>,
 }
 
-impl Model for Command {
-    ghost use Rattle.std.specs.Prelude.{ℕ, List};
-
-    ghost Value = { List ℕ };
-
-    ghost view = { λ c. c.text.items };
-}
-
 impl Command {
     /// The bytes of the command's text.
     pub fn as_bytes(&self) -> &[u8]
@@ -85,4 +77,10 @@ impl Command {
     {
         self.text.as_slice()
     }
+}
+
+impl Model for Command {
+    ghost Value = { List ℕ };
+
+    ghost view = { λ c. c.text.items };
 }

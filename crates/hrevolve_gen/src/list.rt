@@ -1,7 +1,7 @@
 // The whole list.
 ghost use Rattle.std.specs.Prelude.{◌≡◌, ◌≢◌, ◌↔◌, ◌<◌, true, length, IfOk, IfErr, OnOk};
-ghost use Rattle.level_book.specs.Prelude.{slots_of, cost, Nested, IsGreatest, number, never, top_entry};
-ghost use Rattle.cost_tables.specs.Prelude.{AreFor, TablesFit, tables_in};
+ghost use Rattle.level_book.specs.Prelude.{slots_of, cost, Nested, number, never, top_entry};
+ghost use Rattle.cost_tables.specs.Prelude.{AreGreatestFor, tables_in};
 ghost use Rattle.hrevolve_gen.specs.HRevolveList.{IsWritten};
 ghost use Rattle.hrevolve_gen.specs.Plans.{HasNestedPlan, IsFault};
 ghost use Rattle.hrevolve_gen.specs.ReadableTables.{CanRead};
@@ -12,7 +12,7 @@ use cost_tables::laws::greatest_is_exact;
 use cost_tables::{Cost, Tables};
 use level_book::Book;
 use plan_types::Action;
-use revolve_gen::GenFault;
+use revolve_gen::{GenFault, Planned};
 use std::alloc::{AllocError, Global};
 
 /// The list read from the tables that were built for so many steps and a book.
@@ -21,10 +21,8 @@ pub fn hrevolve_list(
     tables: &Tables,
     steps: u32,
     book: &Book,
-) -> Result<Vec<Action>, GenFault>
-    requires fits { TablesFit steps book.now }
-    requires sizes { AreFor steps book.now tables.now }
-    requires greatest { IsGreatest steps book.now (tables_in tables.now) }
+) -> Planned<Vec<Action>>
+    requires { AreGreatestFor steps book.now tables.now }
     ensures list { IfOk result (λ list. IsWritten steps book.now (tables_in tables.now) list.items) }
     ensures nested { IfOk result (λ list. Nested steps (slots_of book.now) list.items) }
     ensures cost { IfOk result (λ list. top_entry steps book.now (tables_in tables.now) ≡ number (cost list.items book.now)) }
@@ -36,10 +34,7 @@ pub fn hrevolve_list(
     if !has_list(tables, book) {
         return Err(GenFault::NoPlan(1));
     }
-    match whole_list(alloc, tables, book) {
-        Ok(list) => Ok(list),
-        Err(_) => Err(GenFault::Memory),
-    }
+    Ok(whole_list(alloc, tables, book)?)
 }
 
 // Whether the top entry is a number.

@@ -1,23 +1,16 @@
--- What a level stands for as pairs come and go.
-use Rattle.std.proofs.Common.{◌≡◌, ◌≢◌, ℕ, ◌<◌, inl, inr, List, [], length, take, set, Option, Some, None, IsSome, cond, true, false, refl, sym, ◌∙◌, ap, subst, unwrap_or, eq-eqb}
-use Rattle.std.specs.Ordering.{nat_cmp, eq_by_cmp}
+-- What a level stands for as pairs come and go, and what is seen of its keeper.
+use Rattle.image_store.proofs.Common.{◌≡◌, ◌≢◌, ℕ, ◌<◌, inl, inr, List, [], length, take, set, Option, Some, None, IsSome, cond, true, false, refl, sym, ◌∙◌, ap, subst, unwrap_or, eq-eqb, true≢false, arith, cases_eq, ne_eqb, get_or-set_same, get_or-set_other, take_all, none-some, same_Some, nat_cmp, eq_by_cmp, sha256, Images, Tells, SameButAt, kept_in, IsGot, pair_at, IsFreeSlot, IsKeptAs, KeepsAs, IsToldAnd, Alone}
 use Rattle.std.specs.Cmp.{nat_cmp_total, unsigned_tied}
-use Rattle.std.proofs.Math.Seq.{take-length}
-use Rattle.std.proofs.lemmas.Bool.{cases_eq, ne_eqb}
-use Rattle.std.proofs.lemmas.List.{get_or-set_same, get_or-set_other}
 use Rattle.std.specs.FinMap as finmap
-use Rattle.sha2.specs.Sha256.{sha256}
-use Rattle.keepers.specs.Claims.{Images, Tells, SameButAt}
+use Rattle.keepers.specs.Calls.{Remains}
+use Rattle.keepers.specs.declared.storage.Storage.{Ghosts}
 use Rattle.image_store.specs.declared.shelf.Kept.{Kept}
-use Rattle.image_store.specs.Pairs.{pair_at, IsFreeSlot}
-use Rattle.image_store.specs.StoredImages.{IsKeptAs, KeepsAs, IsToldAnd, Alone}
-use Rattle.image_store.specs.Calls.{kept_in, IsGot}
 use Rattle.image_store.proofs.SlotAllocation.{own_more, own_less, is_within}
 
-tied : (q n : ℕ) → q ≡ n → eq_by_cmp nat_cmp q n ≡ true
+pub tied : (q n : ℕ) → q ≡ n → eq_by_cmp nat_cmp q n ≡ true
 tied q n e = unsigned_tied q n ∙ eq-eqb q n e
 
-not_tied : (q n : ℕ) → (q ≡ n → ⊥) → eq_by_cmp nat_cmp q n ≡ false
+pub not_tied : (q n : ℕ) → (q ≡ n → ⊥) → eq_by_cmp nat_cmp q n ≡ false
 not_tied q n ne = unsigned_tied q n ∙ ne_eqb q n ne
 
 pub inserted : (m : Images) (n q : ℕ) (x : List ℕ) → q ≡ n → finmap.get (finmap.insert m n x) q ≡ Some x
@@ -103,16 +96,13 @@ found_in images kept (Some image) h = (image, (refl, (h.0, (h.1, h.2))))
 pub found : (pairs : List (Option Kept)) (bytes images : Images) (n : ℕ) (kept : Kept) → pair_at pairs n ≡ Some kept → KeepsAs pairs bytes images → Found bytes images n kept
 found pairs bytes images n kept is s = found_in images kept (finmap.get bytes n) (subst (λ o. IsKeptAs images o (finmap.get bytes n)) is (s.each n))
 
-take_all : (k : ℕ) (xs : List ℕ) → k ≡ length xs → take k xs ≡ xs
-take_all k xs e = ap (λ n. take n xs) e ∙ take-length xs
-
 -- the bytes that are got are those that were put
 pub got_is : (pairs : List (Option Kept)) (bytes : Images) (told : Option Images) (n : ℕ) (kept : Kept) (got : List ℕ) → pair_at pairs n ≡ Some kept →
     IsToldAnd told (KeepsAs pairs bytes) → IsGot kept told got → (finmap.get bytes n ≡ Some got) × (kept.digest ≡ sha256 got)
 got_is pairs bytes None n kept got is s g = absurd s
 got_is pairs bytes (Some images) n kept got is s g =
     let f = found pairs bytes images n kept is s in
-    let same : got ≡ f.0 = g ∙ ap (λ (o : Option (List ℕ)). take kept.length (unwrap_or o [])) f.1.1.0 ∙ take_all kept.length f.0 f.1.1.1.0 in
+    let same : got ≡ f.0 = g ∙ ap (λ (o : Option (List ℕ)). take kept.length (unwrap_or o [])) f.1.1.0 ∙ take_all kept.length f.0 (let long = f.1.1.1.0 in omega (arith, long)) in
     (f.1.0 ∙ ap Some (sym same), f.1.1.1.1 ∙ ap sha256 (sym same))
 
 -- a level that stands, after what its keeper tells has changed
@@ -124,12 +114,6 @@ level_more pairs bytes (Some images) None n slot image within unused told s = ab
 level_more pairs bytes (Some images) (Some images') n slot image within unused told s =
     subst (KeepsAs (set pairs n (Some (kept_in slot image))) (finmap.insert bytes n image)) (sym told) (stands_more pairs bytes images n slot image within unused s)
 
-pub level_still : (pairs : List (Option Kept)) (bytes : Images) (before after : Option Images) (slot : ℕ) → IsFreeSlot pairs slot →
-    Tells before after (SameButAt slot) → IsToldAnd before (KeepsAs pairs bytes) → IsToldAnd after (KeepsAs pairs bytes)
-level_still pairs bytes None after slot unused told s = absurd s
-level_still pairs bytes (Some images) None slot unused told s = absurd told
-level_still pairs bytes (Some images) (Some images') slot unused told s = stands_still pairs bytes images images' slot unused told s
-
 pub level_less : (pairs : List (Option Kept)) (bytes : Images) (before after : Option Images) (n : ℕ) (kept : Kept) → pair_at pairs n ≡ Some kept →
     Tells before after (λ images images'. images' ≡ finmap.remove images kept.slot) → IsToldAnd before (KeepsAs pairs bytes) →
     IsToldAnd after (KeepsAs (set pairs n None) (finmap.remove bytes n))
@@ -138,16 +122,6 @@ level_less pairs bytes (Some images) None n kept is told s = absurd told
 level_less pairs bytes (Some images) (Some images') n kept is told s =
     subst (KeepsAs (set pairs n None) (finmap.remove bytes n)) (sym told) (stands_less pairs bytes images n kept is s)
 
-no_image_pair : (k : Kept) → None ≡ Some k → ⊥
-no_image_pair k e = absurd (cc)
-
-same_kept : (a b : Kept) → Some a ≡ Some b → a ≡ b
-same_kept a b e = cc
-
-no_image : (o : Option (List ℕ)) → IsSome o → o ≡ None → ⊥
-no_image None h e = absurd (cc)
-no_image (Some x) h e = absurd (cc)
-
 -- nothing but the pairs' slots has an image
 pub alone_more : (pairs : List (Option Kept)) (images : Images) (n slot : ℕ) (image : List ℕ) → n < length pairs → pair_at pairs n ≡ None →
     Alone pairs images → Alone (set pairs n (Some (kept_in slot image))) (finmap.insert images slot image)
@@ -155,17 +129,17 @@ alone_more pairs images n slot image within none alone at some = elim (cases_eq 
   | inl e ↦ (n, (kept_in slot image, get_or-set_same pairs n (Some (kept_in slot image)) None within, sym e))
   | inr ne ↦
       let there = alone at (subst IsSome (not_inserted images slot at image ne) some) in
-      let other : there.0 ≢ n = λ e. no_image_pair there.1.0 (sym none ∙ ap (pair_at pairs) (sym e) ∙ there.1.1) in
+      let other : there.0 ≢ n = λ e. none-some there.1.0 (sym none ∙ ap (pair_at pairs) (sym e) ∙ there.1.1) in
       (there.0, (there.1.0, get_or-set_other pairs n there.0 (Some (kept_in slot image)) None other ∙ there.1.1, there.1.2))
 ]
 
 pub alone_less : (pairs : List (Option Kept)) (images : Images) (n : ℕ) (kept : Kept) → pair_at pairs n ≡ Some kept →
     Alone pairs images → Alone (set pairs n None) (finmap.remove images kept.slot)
 alone_less pairs images n kept is alone at some = elim (cases_eq at kept.slot) [
-  | inl e ↦ absurd (no_image (finmap.get (finmap.remove images kept.slot) at) some (removed images kept.slot at e))
+  | inl e ↦ absurd (true≢false (sym (subst IsSome (removed images kept.slot at e) some)))
   | inr ne ↦
       let there = alone at (subst IsSome (not_removed images kept.slot at ne) some) in
-      let other : there.0 ≢ n = λ e. ne (sym there.1.2 ∙ ap (λ (k : Kept). k.slot) (same_kept there.1.0 kept (sym there.1.1 ∙ ap (pair_at pairs) e ∙ is))) in
+      let other : there.0 ≢ n = λ e. ne (sym there.1.2 ∙ ap (λ (k : Kept). k.slot) (same_Some there.1.0 kept (sym there.1.1 ∙ ap (pair_at pairs) e ∙ is))) in
       (there.0, (there.1.0, get_or-set_other pairs n there.0 None None other ∙ there.1.1, there.1.2))
 ]
 
@@ -181,3 +155,8 @@ pub level_alone_less : (pairs : List (Option Kept)) (before after : Option Image
 level_alone_less pairs None after n kept is told s = absurd s
 level_alone_less pairs (Some images) None n kept is told s = absurd told
 level_alone_less pairs (Some images) (Some images') n kept is told s = subst (Alone (set pairs n None)) (sym told) (alone_less pairs images n kept is s)
+
+module _ {K : Type 0} (g : Ghosts K) (x y : K) where
+  -- a call failed for the store where it failed for the keeper
+  pub remains_as : {P Q : Type 0} → (P → Q) → (Q → P) → Remains g P x y → Remains g Q x y
+  remains_as to from r = record { slots = r.slots; room = r.room; place = r.place; quiet = λ never. r.quiet (λ p. never (to p)); later = r.later; cause = λ q. r.cause (from q) }

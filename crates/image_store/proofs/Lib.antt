@@ -1,5 +1,5 @@
+pub mod Common
 pub mod Levels
 pub mod Places
-pub mod KeeperEffects
 pub mod SlotAllocation
 pub mod LevelImages

@@ -1,12 +1,7 @@
 -- The pairs of a level, as its places and its fingerprints give them.
-use Rattle.std.proofs.Common.{◌≡◌, ℕ, zero, suc, ◌+◌, ◌-◌, ◌<◌, List, [], ◌∷◌, replicate, length, get_or, set, Option, Some, None, IsSome, refl, sym, ◌∙◌, ap, add-one, sub-one, arith}
-use Rattle.std.proofs.lemmas.List.{get_or-set_same, get_or-set_other, map-set, length-map}
-use Rattle.sha2.specs.Sha256.{sha256}
+use Rattle.image_store.proofs.Common.{◌≡◌, ℕ, ◌<◌, List, [], length, set, Option, Some, None, refl, ◌∙◌, ap, ◌+◌, zero, suc, ◌∷◌, get_or, ◌-◌, replicate, add-one, get_or-set_same, get_or-set_other, map-set, sha256, kept_in, pair_at, IsFreeSlot, fingerprint_at, pair_in, pairs_in}
 use Rattle.image_store.specs.declared.shelf.Fingerprint.{Fingerprint}
 use Rattle.image_store.specs.declared.shelf.Kept.{Kept}
-use Rattle.image_store.specs.Pairs.{pair_at, IsFreeSlot}
-use Rattle.image_store.specs.SlotAllocation.{fingerprint_at, pair_in, pairs_in}
-use Rattle.image_store.specs.Calls.{kept_in}
 
 -- a pair is the one in its place
 pub pair_is : (prints : List Fingerprint) (places : List ℕ) (n : ℕ) → pair_at (pairs_in prints places) n ≡ pair_in prints (get_or places n 0)
@@ -17,15 +12,6 @@ pair_is prints (p ∷ places) (suc n) = pair_is prints places n
 -- what is kept of the pair in a slot
 abbrev pub kept_by : List Fingerprint → ℕ → Kept
 kept_by prints slot = record { slot = slot; length = (fingerprint_at prints slot).length; digest = (fingerprint_at prints slot).digest }
-
-none_some : (o : Option Kept) → o ≡ None → IsSome o → ⊥
-none_some None e h = absurd (cc)
-none_some (Some k) e h = absurd (cc)
-
--- a held pair has a place, which is one more than its slot
-pub held_in : (prints : List Fingerprint) (place : ℕ) → IsSome (pair_in prints place) → (0 < place) × (pair_in prints place ≡ Some (kept_by prints (place - 1)))
-held_in prints zero h = absurd (none_some None refl h)
-held_in prints (suc slot) h = (omega arith, ap (λ s. Some (kept_by prints s)) (sym (sub-one (suc slot))))
 
 -- no place leads to a free slot
 not_placed : (prints : List Fingerprint) (places : List ℕ) (slot m : ℕ) → IsFreeSlot (pairs_in prints places) slot → get_or places m 0 ≡ suc slot → ⊥
@@ -62,6 +48,3 @@ pairs_less prints places n = map-set (pair_in prints) places n 0
 pub pairs_none : (prints : List Fingerprint) (count : ℕ) → pairs_in prints (replicate count 0) ≡ replicate count None
 pairs_none prints zero = refl
 pairs_none prints (suc count) = λ i. None ∷ pairs_none prints count i
-
-pub as_many : (prints : List Fingerprint) (places : List ℕ) → length (pairs_in prints places) ≡ length places
-as_many prints places = length-map places (pair_in prints)

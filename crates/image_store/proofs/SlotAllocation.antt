@@ -1,22 +1,9 @@
 -- Slots as pairs come and go.
-use Rattle.std.proofs.Common.{◌≡◌, ◌≢◌, ℕ, ◌+◌, ◌-◌, ◌<◌, ◌⊎◌, inl, inr, cond, zero, suc, replicate, List, length, get_or, set, Option, Some, None, refl, sym, ◌∙◌, ap, subst, arith}
+use Rattle.image_store.proofs.Common.{◌≡◌, ◌≢◌, ℕ, ◌<◌, inl, inr, List, length, set, Option, Some, None, cond, refl, sym, ◌∙◌, ap, subst, ◌+◌, zero, suc, get_or, arith, ◌-◌, replicate, ◌⊎◌, cases_eq, cases_lt, get_or-set_same, get_or-set_other, get_or_default, get_or_past, none-some, same_Some, pair_at, IsFreeSlot, held, HaveOwnSlots, SharesOut}
 use Rattle.std.specs.Option.{is_some}
-use Rattle.std.proofs.lemmas.Bool.{cases_eq, cases_lt}
-use Rattle.std.proofs.lemmas.List.{get_or-set_same, get_or-set_other, get_or_past, get_or_default}
 use Rattle.std.proofs.Math.ListN.{length-set}
 use Rattle.std.proofs.lemmas.List.Sums.{sum_by-set}
 use Rattle.image_store.specs.declared.shelf.Kept.{Kept}
-use Rattle.image_store.specs.Pairs.{pair_at, held, IsFreeSlot, HaveOwnSlots}
-use Rattle.image_store.specs.SlotAllocation.{SharesOut}
-
-Pairs : Type 0
-Pairs = List (Option Kept)
-
-some_none : {A : Type 0} (x : A) → None ≡ Some x → ⊥
-some_none x e = absurd (cc)
-
-same_some : {A : Type 0} (x y : A) → Some x ≡ Some y → x ≡ y
-same_some x y e = cc
 
 abbrev one_if : Option Kept → ℕ
 one_if o = cond (is_some o) 1 0
@@ -25,7 +12,7 @@ one_if o = cond (is_some o) 1 0
 pub is_within : (pairs : List (Option Kept)) (n : ℕ) (kept : Kept) → pair_at pairs n ≡ Some kept → n < length pairs
 is_within pairs n kept at = elim (cases_lt n (length pairs)) [
   | inl within ↦ within
-  | inr past ↦ absurd (some_none kept (sym (get_or_past pairs n None past) ∙ at))
+  | inr past ↦ absurd (none-some kept (sym (get_or_past pairs n None past) ∙ at))
 ]
 
 -- what a pair is after one was changed
@@ -43,10 +30,10 @@ own_more pairs n kept within own unused a b ka kb at_a at_b e =
     elim (after_change pairs n a (Some kept) ka within at_a) [
       | inl here ↦ elim (after_change pairs n b (Some kept) kb within at_b) [
         | inl there ↦ here.0 ∙ sym there.0
-        | inr there ↦ absurd (unused b kb there.1 (sym e ∙ ap (λ (k : Kept). k.slot) (sym (same_some kept ka here.1))))
+        | inr there ↦ absurd (unused b kb there.1 (sym e ∙ ap (λ (k : Kept). k.slot) (sym (same_Some kept ka here.1))))
       ]
       | inr here ↦ elim (after_change pairs n b (Some kept) kb within at_b) [
-        | inl there ↦ absurd (unused a ka here.1 (e ∙ ap (λ (k : Kept). k.slot) (sym (same_some kept kb there.1))))
+        | inl there ↦ absurd (unused a ka here.1 (e ∙ ap (λ (k : Kept). k.slot) (sym (same_Some kept kb there.1))))
         | inr there ↦ own a b ka kb here.1 there.1 e
       ]
     ]
@@ -54,7 +41,7 @@ own_more pairs n kept within own unused a b ka kb at_a at_b e =
 -- a pair less
 pub stays : (pairs : List (Option Kept)) (n m : ℕ) (kept : Kept) → n < length pairs → pair_at (set pairs n None) m ≡ Some kept → (m ≢ n) × (pair_at pairs m ≡ Some kept)
 stays pairs n m kept within at = elim (after_change pairs n m None kept within at) [
-  | inl here ↦ absurd (some_none kept here.1)
+  | inl here ↦ absurd (none-some kept here.1)
   | inr there ↦ there
 ]
 
@@ -85,12 +72,12 @@ shares_more pairs free count n kept s some within none slot =
       once = λ i j hi hj e. s.once i j (omega arith) (omega arith) e;
       unused = λ i h m k at e. elim (after_change pairs n m (Some kept) k within at) [
         | inl here ↦
-            let same : i ≡ count - 1 = s.once i (count - 1) (omega arith) last (sym e ∙ ap (λ (q : Kept). q.slot) (sym (same_some kept k here.1)) ∙ slot) in
+            let same : i ≡ count - 1 = s.once i (count - 1) (omega arith) last (sym e ∙ ap (λ (q : Kept). q.slot) (sym (same_Some kept k here.1)) ∙ slot) in
             absurd (omega (arith, same))
         | inr there ↦ s.unused i (omega arith) m k there.1 e
       ];
       slots = λ m k at. elim (after_change pairs n m (Some kept) k within at) [
-        | inl here ↦ subst (λ (q : ℕ). q < length free) (sym slot ∙ ap (λ (q : Kept). q.slot) (same_some kept k here.1)) (s.within (count - 1) last)
+        | inl here ↦ subst (λ (q : ℕ). q < length free) (sym slot ∙ ap (λ (q : Kept). q.slot) (same_Some kept k here.1)) (s.within (count - 1) last)
         | inr there ↦ s.slots m k there.1
       ];
       own = own_more pairs n kept within s.own unused;
@@ -148,7 +135,7 @@ no_pair zero n = refl
 no_pair (suc count) zero = refl
 no_pair (suc count) (suc n) = no_pair count n
 
-none_held : (count : ℕ) → held (replicate count None) ≡ 0
+pub none_held : (count : ℕ) → held (replicate count None) ≡ 0
 none_held zero = refl
 none_held (suc count) = none_held count
 
@@ -158,7 +145,7 @@ shares_all count room free long is = record {
   counted = (let none = none_held count in omega (arith, none, long));
   within = λ i h. (let at = is i h in omega (arith, at, long));
   once = λ i j hi hj e. (let a = is i hi in let b = is j hj in omega (arith, a, b, e));
-  unused = λ i h m k at e. some_none k (sym (no_pair count m) ∙ at);
-  slots = λ m k at. absurd (some_none k (sym (no_pair count m) ∙ at));
-  own = λ a b ka kb at_a at_b e. absurd (some_none ka (sym (no_pair count a) ∙ at_a));
+  unused = λ i h m k at e. none-some k (sym (no_pair count m) ∙ at);
+  slots = λ m k at. absurd (none-some k (sym (no_pair count m) ∙ at));
+  own = λ a b ka kb at_a at_b e. absurd (none-some ka (sym (no_pair count a) ∙ at_a));
 }

@@ -1,8 +1,9 @@
 // The pairs of one level.
-ghost use Rattle.std.specs.Prelude.{◌≡◌, ◌<◌, Some, IsSome, IfOk};
+ghost use Rattle.std.specs.Prelude.{◌≡◌, ◌<◌, Some, IsSome, IfOk, length};
 ghost use Rattle.image_store.specs.Pairs.{pair_at};
-ghost use Rattle.image_store.specs.Shelves.{no_pairs};
+ghost use Rattle.image_store.specs.Shelves.{no_pairs, ShelfState};
 ghost use Rattle.image_store.specs.StoreCalls.{CanKeep, HasPair, KeepsPair, FetchesPair, ReleasesPair};
+ghost use Rattle.image_store.specs.SlotAllocation.{IsShelf, pairs_in};
 
 use keepers::{KeepFault, Keeper};
 use sha2::{Digest, Sha256};
@@ -52,18 +53,6 @@ pub(crate) struct Shelf {
     fingerprints: Vec<Fingerprint>,
     free: Vec<u32>,
     count: usize,
-}
-
-impl Model for Shelf {
-    ghost use Rattle.std.specs.Prelude.{length};
-    ghost use Rattle.image_store.specs.SlotAllocation.{IsShelf, pairs_in};
-    ghost use Rattle.image_store.specs.Shelves.{ShelfState};
-
-    ghost Value = { ShelfState };
-
-    ghost view = { λ s. record { pairs = pairs_in s.fingerprints.items s.places.items; room = length s.free.items } };
-
-    ghost invariant = { λ s. IsShelf s.fingerprints.items s.places.items s.free.items s.count };
 }
 
 impl Shelf {
@@ -170,4 +159,12 @@ impl Shelf {
         self.count += 1;
         Ok(())
     }
+}
+
+impl Model for Shelf {
+    ghost Value = { ShelfState };
+
+    ghost view = { λ s. record { pairs = pairs_in s.fingerprints.items s.places.items; room = length s.free.items } };
+
+    ghost invariant = { λ s. IsShelf s.fingerprints.items s.places.items s.free.items s.count };
 }

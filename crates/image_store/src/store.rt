@@ -1,9 +1,9 @@
 // The pairs of all levels.
-ghost use Rattle.std.specs.Prelude.{◌≡◌, ℕ, ◌<◌, length, slice_set, Some, IfOk, OnErr};
+ghost use Rattle.std.specs.Prelude.{◌≡◌, ℕ, ◌<◌, length, slice_set, Some, IfOk, OnErr, List};
 ghost use Rattle.std.specs.FinMap as finmap;
 ghost use Rattle.level_book.specs.Prelude.{slots_of};
 ghost use Rattle.keepers.specs.Prelude.{Images};
-ghost use Rattle.image_store.specs.Shelves.{level_of, no_pairs_on};
+ghost use Rattle.image_store.specs.Shelves.{level_of, no_pairs_on, ShelfState};
 ghost use Rattle.image_store.specs.StoredImages.{LevelStands, LevelAlone};
 ghost use Rattle.image_store.specs.StoreCalls.{CanKeep, HasPair, KeepsPair, FetchesPair, ReleasesPair};
 
@@ -17,15 +17,6 @@ use std::marker::Model;
 #[derive(Drop)]
 pub struct Store {
     shelves: Vec<Shelf>,
-}
-
-impl Model for Store {
-    ghost use Rattle.std.specs.Prelude.{List};
-    ghost use Rattle.image_store.specs.Shelves.{ShelfState};
-
-    ghost Value = { List ShelfState };
-
-    ghost view = { λ s. s.shelves.items };
 }
 
 impl Store {
@@ -92,4 +83,10 @@ impl Store {
     {
         self.shelves[level as usize].release(keeper, n)
     }
+}
+
+impl Model for Store {
+    ghost Value = { List ShelfState };
+
+    ghost view = { λ s. s.shelves.items };
 }

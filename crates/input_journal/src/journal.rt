@@ -1,7 +1,9 @@
 // A journal of recorded input.
-ghost use Rattle.std.specs.Prelude.{◌≡◌, ◌≤◌, ◌<◌, ◌^◌, [], length, slice_get, Some};
+ghost use Rattle.std.specs.Prelude.{◌≡◌, ◌≤◌, ◌<◌, ◌^◌, [], length, slice_get, Some, ℕ, List};
 ghost use Rattle.std.specs.List.{All, sum_by};
+ghost use Rattle.std.specs.Vec.{vec_len};
 ghost use Rattle.input_journal.specs.Form.{IsShort, IsRecorded};
+ghost use Rattle.input_journal.specs.Parts.{items_in, AreParts};
 
 use std::alloc::Global;
 use std::marker::Model;
@@ -19,19 +21,6 @@ pub struct Journal {
 pub(crate) struct Part {
     pub at: usize,
     pub len: usize,
-}
-
-impl Model for Journal {
-    ghost use Rattle.std.specs.Prelude.{◌≤◌, ℕ, List, length};
-    ghost use Rattle.std.specs.Vec.{vec_len};
-
-    ghost Value = { List (List ℕ) };
-
-    ghost use Rattle.input_journal.specs.Parts.{items_in, AreParts};
-
-    ghost view = { λ j. items_in j.bytes.items j.parts.items };
-
-    ghost invariant = { λ j. (vec_len j.parts ≤ 65536) × AreParts (length j.bytes.items) j.parts.items };
 }
 
 impl Journal {
@@ -83,6 +72,14 @@ impl Journal {
             are_bytes(self.item(index));
         }
     }
+}
+
+impl Model for Journal {
+    ghost Value = { List (List ℕ) };
+
+    ghost view = { λ j. items_in j.bytes.items j.parts.items };
+
+    ghost invariant = { λ j. (vec_len j.parts ≤ 65536) × AreParts (length j.bytes.items) j.parts.items };
 }
 
 // Does nothing. Bytes are below 256.

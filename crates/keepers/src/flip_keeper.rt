@@ -4,7 +4,7 @@ ghost use Rattle.std.specs.Vec.{vec_len, vec_capacity};
 ghost use Rattle.std.specs.FinMap as finmap;
 ghost use Rattle.keepers.specs.Calls.{counts_of};
 ghost use Rattle.keepers.specs.Counts.{raised};
-ghost use Rattle.keepers.specs.FlipState.{flipped, given};
+ghost use Rattle.keepers.specs.FlipState.{flipped, given, FlipState, flip_state_code};
 ghost use Rattle.keepers.specs.Claims.{image_in, SameButAt};
 
 use crate::keeper::{KeepFault, Keeper};
@@ -20,20 +20,6 @@ pub struct FlipKeeper {
     keeper: MemoryKeeper,
     get: u64,
     at: u32,
-}
-
-impl Model for FlipKeeper {
-    ghost use Rattle.std.specs.Prelude.{◌≡◌, []};
-    ghost use Rattle.keepers.specs.FlipState.{FlipState, flip_state_code};
-
-    ghost Value = { FlipState };
-
-    ghost coded = { flip_state_code };
-
-    ghost view = { λ k. record { keeper = k.keeper; get = k.get; at = k.at } };
-
-    // No call is to fail.
-    ghost invariant = { λ k. k.keeper.failing ≡ [] };
 }
 
 impl FlipKeeper {
@@ -59,6 +45,17 @@ impl FlipKeeper {
     {
         self.keeper.counts()
     }
+}
+
+impl Model for FlipKeeper {
+    ghost Value = { FlipState };
+
+    ghost coded = { flip_state_code };
+
+    ghost view = { λ k. record { keeper = k.keeper; get = k.get; at = k.at } };
+
+    // No call is to fail.
+    ghost invariant = { λ k. k.keeper.failing ≡ [] };
 }
 
 impl Storage for FlipKeeper {

@@ -2,7 +2,7 @@
 ghost use Rattle.std.specs.Prelude.{◌≡◌, ◌≢◌, ◌<◌, ◌≤◌, [], length, map, None, Some, Ok, IsSomeAnd, MatchOption};
 ghost use Rattle.std.specs.Vec.{vec_len, vec_capacity};
 ghost use Rattle.std.specs.FinMap as finmap;
-ghost use Rattle.keepers.specs.InputsState.{Notes, FailsIfListed};
+ghost use Rattle.keepers.specs.InputsState.{Notes, FailsIfListed, InputsState, inputs_state_code};
 ghost use Rattle.keepers.specs.Claims.{Begins, bytes_in};
 
 use crate::failing_calls::FailingCalls;
@@ -17,24 +17,6 @@ pub struct MemoryInputs {
     list: Vec<(Vec<u8>, Vec<u8>)>,
     asked: Names,
     calls: FailingCalls,
-}
-
-impl Model for MemoryInputs {
-    ghost use Rattle.std.specs.Prelude.{map};
-    ghost use Rattle.std.specs.FinMap as finmap;
-    ghost use Rattle.keepers.specs.InputsState.{InputsState, inputs_state_code};
-
-    ghost Value = { InputsState };
-
-    ghost coded = { inputs_state_code };
-
-    ghost view = { λ s. record {
-      files = finmap.from_entries (map (λ e. (e.0.items, e.1.items)) s.list.items);
-      asked = s.asked;
-      failing = s.calls.listed.items;
-      calls = s.calls.count;
-      faults = s.calls.faults;
-    } };
 }
 
 impl MemoryInputs {
@@ -80,6 +62,20 @@ impl MemoryInputs {
         }
         None
     }
+}
+
+impl Model for MemoryInputs {
+    ghost Value = { InputsState };
+
+    ghost coded = { inputs_state_code };
+
+    ghost view = { λ s. record {
+      files = finmap.from_entries (map (λ e. (e.0.items, e.1.items)) s.list.items);
+      asked = s.asked;
+      failing = s.calls.listed.items;
+      calls = s.calls.count;
+      faults = s.calls.faults;
+    } };
 }
 
 impl Inputs for MemoryInputs {

@@ -1,11 +1,13 @@
 // A keeper in memory.
-ghost use Rattle.std.specs.Prelude.{◌≡◌, ◌≢◌, ◌↔◌, ◌<◌, ◌≤◌, ℕ, [], length, take, IsTrue, None, Some, Ok, Err, OnOk, IfOk};
+ghost use Rattle.std.specs.Prelude.{◌≡◌, ◌≢◌, ◌↔◌, ◌<◌, ◌≤◌, ℕ, [], length, take, IsTrue, None, Some, Ok, Err, OnOk, IfOk, ◌^◌, IfSome};
 ghost use Rattle.std.specs.Vec.{vec_len, vec_capacity};
 ghost use Rattle.std.specs.FinMap as finmap;
 ghost use Rattle.keepers.specs.Calls.{counts_of};
 ghost use Rattle.keepers.specs.Counts.{raised};
 ghost use Rattle.keepers.specs.FailureList.{IsListed};
 ghost use Rattle.keepers.specs.Claims.{image_in, SameButAt};
+ghost use Rattle.keepers.specs.KeeperState.{KeeperState, keeper_state_code};
+ghost use Rattle.keepers.specs.Places.{images_of, HaveRoom};
 
 use crate::keeper::{KeepFault, Keeper};
 use crate::place::{Place, image_at, with_place, with_rooms};
@@ -30,31 +32,6 @@ pub struct MemoryKeeper {
     room: Option<u32>,
     failing: Vec<(Op, u64)>,
     counts: CallCounts,
-}
-
-impl Model for MemoryKeeper {
-    ghost use Rattle.std.specs.Prelude.{◌≡◌, ◌<◌, ◌≤◌, ◌^◌, IfSome, vec_len};
-    ghost use Rattle.keepers.specs.KeeperState.{KeeperState, keeper_state_code};
-    ghost use Rattle.keepers.specs.Places.{images_of, HaveRoom};
-
-    ghost Value = { KeeperState };
-
-    ghost coded = { keeper_state_code };
-
-    ghost view = { λ k. record {
-      images = images_of k.places.items;
-      slots = k.slots;
-      room = k.room;
-      failing = k.failing.items;
-      puts = k.counts.puts;
-      gets = k.counts.gets;
-      frees = k.counts.frees;
-      faults = k.counts.faults;
-    } };
-
-    // There are places for the first slots. With a room, all slots have places, and each place has that room.
-    ghost invariant = { λ k. (vec_len k.places ≤ k.slots) × (k.slots < 2 ^ 32)
-        × IfSome k.room (λ room. (vec_len k.places ≡ k.slots) × HaveRoom room k.places.items) };
 }
 
 impl MemoryKeeper {
@@ -124,6 +101,27 @@ impl MemoryKeeper {
     {
         self.counts
     }
+}
+
+impl Model for MemoryKeeper {
+    ghost Value = { KeeperState };
+
+    ghost coded = { keeper_state_code };
+
+    ghost view = { λ k. record {
+      images = images_of k.places.items;
+      slots = k.slots;
+      room = k.room;
+      failing = k.failing.items;
+      puts = k.counts.puts;
+      gets = k.counts.gets;
+      frees = k.counts.frees;
+      faults = k.counts.faults;
+    } };
+
+    // There are places for the first slots. With a room, all slots have places, and each place has that room.
+    ghost invariant = { λ k. (vec_len k.places ≤ k.slots) × (k.slots < 2 ^ 32)
+        × IfSome k.room (λ room. (vec_len k.places ≡ k.slots) × HaveRoom room k.places.items) };
 }
 
 impl Storage for MemoryKeeper {

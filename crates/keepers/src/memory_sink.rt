@@ -1,6 +1,8 @@
 // Output that is taken in memory.
 ghost use Rattle.std.specs.Prelude.{◌≡◌, ◌+◌, ◌≤◌, ◌↔◌, [], ◌++◌, length, Contains, IfOk, IsOk, OnOk, OnErr};
+ghost use Rattle.std.specs.Vec.{vec_len, vec_capacity};
 ghost use Rattle.keepers.specs.Counts.{raised};
+ghost use Rattle.keepers.specs.SinkState.{SinkState};
 
 use crate::failing_calls::FailingCalls;
 use crate::sink::{Sink, SinkFault};
@@ -13,18 +15,6 @@ pub struct MemorySink {
     bytes: Vec<u8>,
     room: u32,
     calls: FailingCalls,
-}
-
-impl Model for MemorySink {
-    ghost use Rattle.std.specs.Prelude.{◌≤◌};
-    ghost use Rattle.std.specs.Vec.{vec_len, vec_capacity};
-    ghost use Rattle.keepers.specs.SinkState.{SinkState};
-
-    ghost Value = { SinkState };
-
-    ghost view = { λ s. record { bytes = s.bytes.items; room = s.room; failing = s.calls.listed.items; calls = s.calls.count; faults = s.calls.faults } };
-
-    ghost invariant = { λ s. (vec_len s.bytes ≤ s.room) × (s.room ≤ vec_capacity s.bytes) };
 }
 
 impl MemorySink {
@@ -73,6 +63,14 @@ impl MemorySink {
         }
         Ok(())
     }
+}
+
+impl Model for MemorySink {
+    ghost Value = { SinkState };
+
+    ghost view = { λ s. record { bytes = s.bytes.items; room = s.room; failing = s.calls.listed.items; calls = s.calls.count; faults = s.calls.faults } };
+
+    ghost invariant = { λ s. (vec_len s.bytes ≤ s.room) × (s.room ≤ vec_capacity s.bytes) };
 }
 
 impl Sink for MemorySink {

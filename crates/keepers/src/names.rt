@@ -1,5 +1,5 @@
 // The requested names.
-ghost use Rattle.std.specs.Prelude.{◌≡◌, [], ◌∷◌, ◌++◌, OnOk, OnErr};
+ghost use Rattle.std.specs.Prelude.{◌≡◌, [], ◌∷◌, ◌++◌, OnOk, OnErr, ℕ, List, map};
 
 use std::alloc::{AllocError, Global};
 use std::marker::Model;
@@ -9,14 +9,6 @@ use std::marker::Model;
 pub(crate) struct Names {
     alloc: Global,
     list: Vec<Vec<u8>>,
-}
-
-impl Model for Names {
-    ghost use Rattle.std.specs.Prelude.{ℕ, List, map};
-
-    ghost Value = { List (List ℕ) };
-
-    ghost view = { λ n. map (λ name. name.items) n.list.items };
 }
 
 impl Names {
@@ -37,4 +29,10 @@ impl Names {
         self.list.push(copy)?;
         Ok(())
     }
+}
+
+impl Model for Names {
+    ghost Value = { List (List ℕ) };
+
+    ghost view = { λ n. map (λ name. name.items) n.list.items };
 }

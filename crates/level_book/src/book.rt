@@ -1,8 +1,8 @@
 // The book of levels.
 ghost use Rattle.std.specs.Prelude.{◌≡◌, ◌≤◌, ◌<◌, [], ◌∷◌, take, length, slice_get, Some};
 ghost use Rattle.plan_types.specs.declared.limits.TheConstants.{MOST_SLOTS};
-ghost use Rattle.level_book.specs.BookCosts.{plain, room, total_room, names_of, BookCosts, IsWithinLimits, CostsRise};
 ghost use Rattle.level_book.specs.Names.{AreNames};
+ghost use Rattle.level_book.specs.BookCosts.{plain, room, total_room, names_of, BookCosts, IsWithinLimits, CostsRise};
 
 use std::marker::Model;
 
@@ -11,16 +11,6 @@ use std::marker::Model;
 pub struct Name {
     text: [u8; 16],
     len: usize,
-}
-
-impl Model for Name {
-    ghost use Rattle.std.specs.Prelude.{◌≤◌, ℕ, List, take};
-
-    ghost Value = { List ℕ };
-
-    ghost view = { λ n. take n.len n.text };
-
-    ghost invariant = { λ n. (1 ≤ n.len) × (n.len ≤ 16) };
 }
 
 impl Name {
@@ -44,6 +34,16 @@ impl Name {
     {
         &self.text[..self.len]
     }
+}
+
+impl Model for Name {
+    ghost use Rattle.std.specs.Prelude.{◌≤◌, ℕ, List, take};
+
+    ghost Value = { List ℕ };
+
+    ghost view = { λ n. take n.len n.text };
+
+    ghost invariant = { λ n. (1 ≤ n.len) × (n.len ≤ 16) };
 }
 
 /// How many images a level holds at once.
@@ -71,21 +71,6 @@ pub struct Book {
     reverse: u32,
     levels: [Level; 4],
     count: u8,
-}
-
-impl Model for Book {
-    ghost use Rattle.std.specs.Prelude.{◌≤◌, length, take};
-    ghost use Rattle.level_book.specs.BookCosts.{names_of, BookCosts, IsWithinLimits, CostsRise};
-    ghost use Rattle.level_book.specs.Names.{AreNames};
-
-    ghost Value = { BookCosts };
-
-    ghost view = { λ b. record { forward = b.forward; reverse = b.reverse; levels = take b.count b.levels } };
-
-    ghost invariant = { λ b. (1 ≤ b.count) × (b.count ≤ 4) × (b.count ≤ length b.levels)
-        × IsWithinLimits (record { forward = b.forward; reverse = b.reverse; levels = b.levels })
-        × AreNames (names_of (record { forward = b.forward; reverse = b.reverse; levels = take b.count b.levels }))
-        × CostsRise (record { forward = b.forward; reverse = b.reverse; levels = take b.count b.levels }) };
 }
 
 impl Book {
@@ -194,6 +179,17 @@ impl Book {
     {
         &self.levels[k as usize]
     }
+}
+
+impl Model for Book {
+    ghost Value = { BookCosts };
+
+    ghost view = { λ b. record { forward = b.forward; reverse = b.reverse; levels = take b.count b.levels } };
+
+    ghost invariant = { λ b. (1 ≤ b.count) × (b.count ≤ 4) × (b.count ≤ length b.levels)
+        × IsWithinLimits (record { forward = b.forward; reverse = b.reverse; levels = b.levels })
+        × AreNames (names_of (record { forward = b.forward; reverse = b.reverse; levels = take b.count b.levels }))
+        × CostsRise (record { forward = b.forward; reverse = b.reverse; levels = take b.count b.levels }) };
 }
 
 // A level `RAM` that costs nothing.

@@ -55,7 +55,7 @@ pub struct LineFault<R> {
     pub column: u32,
 }
 
-impl<R: Rules + Copy> LineFault<R> {
+impl<R: Rules> LineFault<R> {
     /// The fault, as one of the text whose line has this number.
     pub fn at(self, line: u32) -> Fault
         ensures { result ≡ Fault.At (R.number_of self.rule) line self.column }

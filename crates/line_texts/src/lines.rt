@@ -1,5 +1,5 @@
 // The lines of a text, one after the other.
-ghost use Rattle.std.specs.Prelude.{◌≡◌, ◌<◌, ◌≤◌, ◌^◌, [], ◌∷◌, length, drop, MatchOption, IfSome};
+ghost use Rattle.std.specs.Prelude.{◌≡◌, ◌<◌, ◌≤◌, ◌^◌, [], ◌∷◌, length, drop, MatchOption, IfSome, ℕ, List, cond};
 ghost use Rattle.line_texts.specs.Lines.{lines};
 ghost use Rattle.line_texts.specs.Parsers.{length_before};
 
@@ -10,17 +10,6 @@ use std::marker::Model;
 pub struct Lines<'a> {
     rest: &'a [u8],
     is_over: bool,
-}
-
-impl<'a> Model for Lines<'a> {
-    ghost use Rattle.std.specs.Prelude.{◌<◌, ◌^◌, ℕ, List, [], length, cond};
-    ghost use Rattle.line_texts.specs.Lines.{lines};
-
-    ghost Value = { List (List ℕ) };
-
-    ghost view = { λ l. cond l.is_over [] (lines l.rest.now) };
-
-    ghost invariant = { λ l. length l.rest.now < 2 ^ 31 };
 }
 
 impl<'a> Lines<'a> {
@@ -49,6 +38,14 @@ impl<'a> Lines<'a> {
         self.rest = without_first(behind);
         Some(line)
     }
+}
+
+impl<'a> Model for Lines<'a> {
+    ghost Value = { List (List ℕ) };
+
+    ghost view = { λ l. cond l.is_over [] (lines l.rest.now) };
+
+    ghost invariant = { λ l. length l.rest.now < 2 ^ 31 };
 }
 
 /// How many bytes come before this one, or how many there are.

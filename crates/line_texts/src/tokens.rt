@@ -1,7 +1,9 @@
 // The tokens of a line, one after the other.
-ghost use Rattle.std.specs.Prelude.{◌≡◌, ◌+◌, ◌<◌, ◌≤◌, ◌^◌, ℕ, Bool, true, false, [], ◌∷◌, length, drop, MatchOption, if◌then◌else◌};
+ghost use Rattle.std.specs.Prelude.{◌≡◌, ◌+◌, ◌<◌, ◌≤◌, ◌^◌, ℕ, Bool, true, false, [], ◌∷◌, length, drop, MatchOption, if◌then◌else◌, List};
 ghost use Rattle.std.specs.Str.{bytes_eq};
-ghost use Rattle.line_texts.specs.Tokens.{is_blank as blank, tokens, in_word};
+ghost use Rattle.std.proofs.Common.{arith};
+ghost use Rattle.std.proofs.lemmas.Bool.Decides.{nat_tests};
+ghost use Rattle.line_texts.specs.Tokens.{is_blank as blank, tokens, in_word, Token as SeenToken};
 ghost use Rattle.line_texts.specs.Parsers.{run_length, token_length};
 ghost use Rattle.line_texts.specs.Cursors.{token_of, text_in, column_in, IsMark};
 
@@ -24,10 +26,6 @@ pub trait RunBytes {
 pub struct NoBlanks;
 
 impl RunBytes for NoBlanks {
-    ghost use Rattle.line_texts.specs.Tokens.{in_word};
-    ghost use Rattle.std.proofs.Common.{arith};
-    ghost use Rattle.std.proofs.lemmas.Bool.Decides.{nat_tests};
-
     ghost in_run = { in_word };
 
     fn in_run(byte: u8) -> bool {
@@ -54,17 +52,6 @@ pub struct Tokens<'a, R: RunBytes> {
 
 /// The words of a line.
 pub type Words<'a> = Tokens<'a, NoBlanks>;
-
-impl<'a, R: RunBytes> Model for Tokens<'a, R> {
-    ghost use Rattle.std.specs.Prelude.{◌+◌, ◌<◌, ◌^◌, List, length};
-    ghost use Rattle.line_texts.specs.Tokens.{Token as SeenToken, tokens};
-
-    ghost Value = { List SeenToken };
-
-    ghost view = { λ t. tokens R.in_run t.column t.rest.now };
-
-    ghost invariant = { λ t. t.column + length t.rest.now < 2 ^ 32 };
-}
 
 impl<'a, R: RunBytes> Tokens<'a, R> {
     /// The tokens of bytes that begin in this column.
@@ -130,6 +117,14 @@ impl<'a, R: RunBytes> Tokens<'a, R> {
             None => end,
         }
     }
+}
+
+impl<'a, R: RunBytes> Model for Tokens<'a, R> {
+    ghost Value = { List SeenToken };
+
+    ghost view = { λ t. tokens R.in_run t.column t.rest.now };
+
+    ghost invariant = { λ t. t.column + length t.rest.now < 2 ^ 32 };
 }
 
 // How many bytes the token at the front has.

@@ -8,8 +8,8 @@ use std::cmp::Reverse;
 // A place with its saving on the faster level. The greatest savings come first, and among equals the lowest place.
 #[derive(Clone, Copy, PartialEq, Eq, PartialOrd, Ord)]
 pub(crate) struct Rank {
-    pub(crate) saving: Reverse<u64>,
-    pub(crate) place: usize,
+    pub saving: Reverse<u64>,
+    pub place: usize,
 }
 
 // The level of each place, where so many have room on level 0.

@@ -1,8 +1,9 @@
 // The multistage plan, one action at a time.
-ghost use Rattle.std.specs.Prelude.{◌≡◌, ◌≤◌, [], ◌∷◌, length, MatchOption, IfOk, IfErr};
+ghost use Rattle.std.specs.Prelude.{◌≡◌, ◌≤◌, [], ◌∷◌, length, MatchOption, IfOk, IfErr, ◌+◌, ◌<◌, ◌^◌, slice_index};
 ghost use Rattle.plan_types.specs.declared.limits.TheConstants.{MOST_STEPS};
 ghost use Rattle.revolve_gen.specs.Prelude.{IsMultistage};
-ghost use Rattle.multistage_gen.specs.Plan.{IsPlaced};
+ghost use Rattle.revolve_gen.specs.Stack.{placed};
+ghost use Rattle.multistage_gen.specs.Plan.{IsPlaced, Plan};
 ghost use Rattle.multistage_gen.specs.MultistageList.{IsMultistageList, IsFault};
 
 use crate::numbers::revolve_places;
@@ -10,7 +11,7 @@ use crate::placing::placed_action;
 use crate::planning::{planned_levels, savings_by};
 use level_book::Book;
 use plan_types::Action;
-use revolve_gen::{GenFault, Revolve};
+use revolve_gen::{GenFault, Planned, Revolve};
 use std::alloc::Global;
 use std::marker::Model;
 
@@ -24,22 +25,10 @@ pub struct Multistage {
     held: usize,
 }
 
-impl Model for Multistage {
-    ghost use Rattle.std.specs.Prelude.{◌≡◌, ◌+◌, ◌<◌, ◌^◌, length, slice_index};
-    ghost use Rattle.revolve_gen.specs.Stack.{placed};
-    ghost use Rattle.multistage_gen.specs.Plan.{Plan};
-
-    ghost Value = { Plan };
-
-    ghost view = { λ m. record { levels = m.levels.items; savings = m.savings.items; actions = placed (slice_index m.levels.items) m.held m.revolve } };
-
-    ghost invariant = { λ m. (length m.savings.items ≡ length m.levels.items) × (m.held + length m.revolve < 2 ^ 64) };
-}
-
 impl Multistage {
     /// The plan for so many steps over the two levels of a book. The traffic of each place comes from the counts of the
     /// stretches, without a list. It keeps its places and the stack of the stream, each within the slots.
-    pub fn begin(alloc: Global, steps: u32, book: &Book) -> Result<Multistage, GenFault>
+    pub fn begin(alloc: Global, steps: u32, book: &Book) -> Planned<Multistage>
         requires { steps ≤ MOST_STEPS }
         ensures list { IfOk result (λ plan. IsMultistageList steps book.now plan.actions) }
         ensures class { IfOk result (λ plan. IsMultistage steps book.now plan.actions) }
@@ -50,15 +39,9 @@ impl Multistage {
             return Err(GenFault::NoPlan(2));
         }
         let revolve = Revolve::new(alloc, steps, book)?;
-        let Ok(traffic) = revolve_places(alloc, steps, book.total_room(steps)) else {
-            return Err(GenFault::Memory);
-        };
-        let Ok(levels) = planned_levels(alloc, &traffic, steps, book) else {
-            return Err(GenFault::Memory);
-        };
-        let Ok(savings) = savings_by(alloc, &traffic, book) else {
-            return Err(GenFault::Memory);
-        };
+        let traffic = revolve_places(alloc, steps, book.total_room(steps))?;
+        let levels = planned_levels(alloc, &traffic, steps, book)?;
+        let savings = savings_by(alloc, &traffic, book)?;
         Ok(Multistage {
             levels,
             savings,
@@ -92,4 +75,12 @@ impl Multistage {
     {
         &self.savings
     }
+}
+
+impl Model for Multistage {
+    ghost Value = { Plan };
+
+    ghost view = { λ m. record { levels = m.levels.items; savings = m.savings.items; actions = placed (slice_index m.levels.items) m.held m.revolve } };
+
+    ghost invariant = { λ m. (length m.savings.items ≡ length m.levels.items) × (m.held + length m.revolve < 2 ^ 64) };
 }

@@ -11,14 +11,6 @@ pub struct Line {
     len: usize,
 }
 
-impl Model for Line {
-    ghost Value = { List ℕ };
-
-    ghost view = { λ l. take l.len l.text };
-
-    ghost invariant = { λ l. l.len ≤ 512 };
-}
-
 impl Line {
     /// The empty line.
     pub fn new() -> Line
@@ -63,4 +55,12 @@ impl Line {
         let mut digits = Buffer::new();
         self.push(digits.format(n).as_bytes());
     }
+}
+
+impl Model for Line {
+    ghost Value = { List ℕ };
+
+    ghost view = { λ l. take l.len l.text };
+
+    ghost invariant = { λ l. l.len ≤ 512 };
 }

@@ -1,5 +1,5 @@
 // The words of a command, read one after the other.
-ghost use Rattle.std.specs.Prelude.{◌≡◌, ◌⊎◌, ℕ, List, ◌∷◌, [], map, None, Some, MatchOption, option_map};
+ghost use Rattle.std.specs.Prelude.{◌≡◌, ◌⊎◌, ℕ, List, ◌∷◌, [], map, None, Some, MatchOption, option_map, Option};
 ghost use Rattle.line_texts.specs.Prelude.{GivesSome};
 ghost use Rattle.requests.specs.RequestModel.{as_schedule};
 ghost use Rattle.requests.specs.Forms.{fixed, named, named_or_none, schedule_named, scheduled, numbered, addressed, digested, address_of, digest_of, finished, Takes};
@@ -13,15 +13,6 @@ use std::marker::Model;
 #[derive(Drop)]
 pub struct Operands<'a> {
     rest: Option<&'a [Vec<u8>]>,
-}
-
-impl<'a> Model for Operands<'a> {
-    ghost use Rattle.std.specs.Prelude.{ℕ, List, map, Option};
-    ghost use Rattle.std.specs.Option.{option_map};
-
-    ghost Value = { Option (List (List ℕ)) };
-
-    ghost view = { λ o. option_map (λ rest. map (λ w. w.items) rest.now) o.rest };
 }
 
 impl<'a> Operands<'a> {
@@ -163,6 +154,12 @@ impl<'a> Operands<'a> {
             _ => None,
         }
     }
+}
+
+impl<'a> Model for Operands<'a> {
+    ghost Value = { Option (List (List ℕ)) };
+
+    ghost view = { λ o. option_map (λ rest. map (λ w. w.items) rest.now) o.rest };
 }
 
 // The digest of a word of 64 digits.

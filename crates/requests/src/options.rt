@@ -1,8 +1,8 @@
 // The options of a command line.
-ghost use Rattle.std.specs.Prelude.{◌≡◌, map, find};
+ghost use Rattle.std.specs.Prelude.{◌≡◌, map, find, List};
 ghost use Rattle.std.specs.List.{list_any};
 ghost use Rattle.line_texts.specs.Prelude.{GivesSome};
-ghost use Rattle.requests.specs.Request.{is_files, says_raw, stack_pages, worker_count, unit_count};
+ghost use Rattle.requests.specs.Request.{is_files, says_raw, stack_pages, worker_count, unit_count, Choice};
 ghost use Rattle.requests.specs.ChoiceParser.{number_of, files_of, choice_of, first_choice, options_at, behind_options, is_like, are_single, choice_number, number_like, as_choice};
 
 use crate::text::after;
@@ -65,16 +65,6 @@ pub struct Options<'a> {
     words: &'a [Vec<u8>],
 }
 
-impl<'a> Model for Options<'a> {
-    ghost use Rattle.std.specs.Prelude.{List, map};
-    ghost use Rattle.requests.specs.Request.{Choice};
-    ghost use Rattle.requests.specs.ChoiceParser.{options_at};
-
-    ghost Value = { List Choice };
-
-    ghost view = { λ o. options_at (map (λ w. w.items) o.words.now) };
-}
-
 impl<'a> Options<'a> {
     /// The words that begin with these options.
     pub fn words(&self) -> &'a [Vec<u8>]
@@ -134,6 +124,12 @@ impl<'a> Options<'a> {
             None => default.number(),
         }
     }
+}
+
+impl<'a> Model for Options<'a> {
+    ghost Value = { List Choice };
+
+    ghost view = { λ o. options_at (map (λ w. w.items) o.words.now) };
 }
 
 // Whether an option of the same kind is among those at the front of the words.

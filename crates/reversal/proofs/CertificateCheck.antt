@@ -9,10 +9,9 @@ use Rattle.bound_cert.specs.Acceptance.{IsAccepted}
 use Rattle.bound_cert.proofs.VerdictUniqueness.{apart, one_reason}
 use Rattle.endings.specs.declared.outcome.Outcome.{Outcome}
 use Rattle.reversal.specs.Job.{Job}
-use Rattle.endings.specs.Outcomes.{no_memory, not_least}
+use Rattle.endings.specs.Outcomes.{not_least}
 use Rattle.endings.specs.Endings.{status_of}
 use Rattle.reversal.specs.Table.{Decision, refuse, accept, Weigh}
-use Rattle.reversal.specs.JobModel.{IsUnweighed}
 use Rattle.reversal.proofs.Refusals.{IsRefusing, refusing_past}
 
 pub weigh_one : (steps : ℕ) (book : BookCosts) (list : List Action) (k : Certificate) (c d : Decision) (Below Other : Type 0) → (Below → Other → c ≡ d) → Weigh steps book list k c Below → Weigh steps book list k d Other → c ≡ d
@@ -42,10 +41,4 @@ pub weigh_comes_to : (steps : ℕ) (book : BookCosts) (list : List Action) (k : 
 weigh_comes_to steps book list k d Below h = elim h [
   | inl n ↦ inl (not_least n.0, (n.2, refusing_past (not_least n.0) 15 (its_status n.0) (omega arith) (omega arith)))
   | inr y ↦ inr y.1
-]
-
-pub weigh_refuses : (steps : ℕ) (book : BookCosts) (list : List Action) (k : Certificate) (e : Outcome) (Below : Type 0) → IsUnweighed steps book list k e → (e ≡ no_memory) ⊎ Weigh steps book list k (refuse e) Below
-weigh_refuses steps book list k e Below h = elim h [
-  | inl memory ↦ inl memory
-  | inr other ↦ inr (inl (other.0, other.1.0, ap (λ x. refuse x) other.1.1))
 ]

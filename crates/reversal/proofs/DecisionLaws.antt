@@ -14,7 +14,7 @@ use Rattle.rv_machine.specs.MachineState.{MachineState}
 use Rattle.reverse_runner.specs.KeepersSeen.{HaveRoom}
 use Rattle.endings.specs.declared.outcome.Outcome.{Outcome}
 use Rattle.requests.specs.Request.{Choice, says_raw, stack_pages, unit_count, Command, Request}
-use Rattle.endings.specs.Outcomes.{no_memory, unreadable, too_long as longer, bad_program, bad_journal, bad_book, bad_text, invalid, bad_certificate, bad_script, out_of_range, no_plan}
+use Rattle.endings.specs.Outcomes.{no_memory, not_least, unreadable, too_long as longer, bad_program, bad_journal, bad_book, bad_text, invalid, bad_certificate, bad_script, out_of_range, no_plan}
 use Rattle.revolve_gen.specs.Plans.{HasPlan}
 use Rattle.revolve_gen.specs.RevolveList.{revolve_list}
 use Rattle.requests.specs.Operands.{limit_of}
@@ -56,17 +56,18 @@ use Rattle.reversal.specs.InputMeaning.{HasBookFault, IsStartOf, HasProgramFault
 use Rattle.reversal.specs.CommandCost.{DecidesCost}
 use Rattle.reversal.specs.CommandCheck.{DecidesCheck}
 use Rattle.reversal.specs.CommandCertify.{DecidesCertify, least_line}
-use Rattle.reversal.specs.JobModel.{IsRefusal, IsUnbegun, IsUnjudged, IsUnweighed}
+use Rattle.reversal.specs.JobModel.{IsRefusal, IsUnbegun, IsUnjudged}
 use Rattle.reversal.proofs.Refusals.{IsRefusing}
 use Rattle.cert_text.specs.declared.certificate.Certificate.{Certificate}
 use Rattle.cert_text.specs.Meaning.{IsCertificateText}
 use Rattle.cert_text.specs.Faults.{HasFirstFault as CertificateFirst}
-use Rattle.bound_cert.specs.Acceptance.{class_of, IsAccepted, IsLeastOf}
+use Rattle.bound_cert.specs.declared.verdict.Reason.{Reason}
+use Rattle.bound_cert.specs.Acceptance.{class_of, IsAccepted, IsFirstReason, IsLeastOf}
 use Rattle.level_book.specs.CostFold.{forward}
 use Rattle.bound_cert.proofs.VerdictUniqueness.{accepted_least}
 use Rattle.level_book.specs.declared.book.Level.{Level}
 use Rattle.reversal.proofs.BookTexts.{some_level, costs_rise}
-use Rattle.reversal.proofs.CertificateCheck.{weigh_met, weigh_refuses}
+use Rattle.reversal.proofs.CertificateCheck.{weigh_met}
 use Rattle.reversal.proofs.KeeperCheck.{keep_refuses, keep_accepts, keep_passes}
 use Rattle.action_text.specs.Faults.{HasFirstFault}
 use Rattle.reversal.proofs.QuestionDeeds.{bytes_asked, steps_asked}
@@ -645,12 +646,12 @@ certify_by_certificate steps book schedule certificate e b list is_book is_list 
     valid_passes steps book schedule (certificate_lines steps certificate) e b list is_book is_list valid
     (read_refuses (IsCertificateText steps b certificate) (CertificateFirst steps b certificate) bad_certificate e _ h)
 
-pub certify_by_weight : (steps : ℕ) (book schedule certificate : List ℕ) (e : Outcome) (b : BookCosts) (list : List Action) (k : Certificate) → IsBookText book b → IsSchedule (names_of b) schedule list → Valid steps (slots_of b) list → IsCertificateText steps b certificate k →
-    IsUnweighed steps b list k e → (e ≡ no_memory) ⊎ DecidesCertify steps book schedule certificate (refuse e)
-certify_by_weight steps book schedule certificate e b list k is_book is_list valid is_certificate h =
-    valid_passes steps book schedule (certificate_lines steps certificate) e b list is_book is_list valid
-    (read_passes (IsCertificateText steps b certificate) (CertificateFirst steps b certificate) bad_certificate e _ k is_certificate
-    (weigh_refuses steps b list k e _ h))
+pub certify_by_weight : (steps : ℕ) (book schedule certificate : List ℕ) (b : BookCosts) (list : List Action) (k : Certificate) (reason : Reason) → IsBookText book b → IsSchedule (names_of b) schedule list → Valid steps (slots_of b) list → IsCertificateText steps b certificate k →
+    IsFirstReason list steps b k reason → (not_least reason ≡ no_memory) ⊎ DecidesCertify steps book schedule certificate (refuse (not_least reason))
+certify_by_weight steps book schedule certificate b list k reason is_book is_list valid is_certificate first =
+    valid_passes steps book schedule (certificate_lines steps certificate) (not_least reason) b list is_book is_list valid
+    (read_passes (IsCertificateText steps b certificate) (CertificateFirst steps b certificate) bad_certificate (not_least reason) _ k is_certificate
+    (inr (inl (reason, first, refl))))
 
 pub certify_accepted : (steps : ℕ) (book schedule certificate : List ℕ) (b : BookCosts) (list : List Action) (k : Certificate) → IsBookText book b → IsSchedule (names_of b) schedule list → Valid steps (slots_of b) list → IsCertificateText steps b certificate k →
     IsAccepted list steps b k → DecidesCertify steps book schedule certificate (accept (write (least_line (class_of k) ∷ [])))

@@ -5,7 +5,7 @@ use Rattle.std.specs.Vec.{vec_capacity}
 use Rattle.std.specs.List.{AllByRecursion}
 use Rattle.plan_types.specs.declared.limits.TheConstants.{MOST_ACTIONS, MOST_COST, MOST_SLOTS, MOST_STEPS}
 use Rattle.plan_types.specs.declared.action.Action.{Action}
-use Rattle.level_book.specs.BookCosts.{BookCosts, slots_of, names_of, total_room, plain}
+use Rattle.level_book.specs.BookCosts.{slots_of, names_of, total_room, plain}
 use Rattle.level_book.specs.Valid.{Valid}
 use Rattle.keepers.specs.Claims.{Images, Tells, AddsPrefix}
 use Rattle.keepers.specs.Counts.{raised, Rose}
@@ -16,8 +16,6 @@ use Rattle.rv_machine.specs.MachineState.{IsMachineState}
 use Rattle.action_text.specs.Canonical.{HasSpelling}
 use Rattle.cert_text.specs.declared.certificate.Certificate.{Certificate}
 use Rattle.cert_text.specs.Canonical as certificate
-use Rattle.bound_cert.specs.declared.verdict.Reason.{Reason}
-use Rattle.bound_cert.specs.Acceptance.{IsFirstReason}
 use Rattle.revolve_gen.specs.Plans as revolve
 use Rattle.reverse_runner.specs.KeepersSeen.{HaveRoom}
 use Rattle.endings.specs.declared.outcome.Outcome.{Outcome}
@@ -55,7 +53,7 @@ use Rattle.reversal.specs.InputMeaning.{in_units, over_valid, over_program, Deci
 use Rattle.reversal.specs.Decision.{course_of, KeepsOthers, HaveRoomsFor}
 use Rattle.reverse_runner.specs.declared.fault.RunFault.{RunFault}
 use Rattle.reverse_runner.specs.declared.fault.RunFault.TheVariants as fault
-use Rattle.endings.specs.Outcomes.{done, no_memory, not_least, keeper_failed, damaged, stopped}
+use Rattle.endings.specs.Outcomes.{done, no_memory, keeper_failed, damaged, stopped}
 use Rattle.endings.specs.Endings.{status_of}
 
 -- the writes of a certificate, if there is one
@@ -202,11 +200,6 @@ IsUnbegun options program journal e = (e ≡ no_memory) ⊎ Decided (over_progra
 -- why the bytes of a schedule aren't a valid list over the book that others mean: a refusal, or no memory
 abbrev pub IsUnjudged : ℕ → List ℕ → List ℕ → Outcome → Type 0
 IsUnjudged steps book schedule e = (e ≡ no_memory) ⊎ Decided (over_valid steps book schedule (λ b list. ends (λ d. ⊥))) (refuse e)
-
--- why a list isn't shown to be least: the first reason against its certificate, or no memory
-abbrev pub IsUnweighed : ℕ → BookCosts → List Action → Certificate → Outcome → Type 0
-IsUnweighed steps book list certificate e =
-    (e ≡ no_memory) ⊎ ((reason : Reason) × (IsFirstReason list steps book certificate reason × (e ≡ not_least reason)))
 
 -- the job was done, stopped, or ran out of memory, by its course
 abbrev pub WorksBy : Course → Outcome → Moment → Moment → Type 0

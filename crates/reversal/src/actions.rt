@@ -43,17 +43,6 @@ pub struct Listed {
     at: usize,
 }
 
-impl Model for Listed {
-    ghost use Rattle.std.specs.Prelude.{◌≤◌, List, length, drop};
-    ghost use Rattle.plan_types.specs.declared.action.Action.{Action};
-
-    ghost Value = { List Action };
-
-    ghost view = { λ l. drop l.at l.list.items };
-
-    ghost invariant = { λ l. l.at ≤ length l.list.items };
-}
-
 impl Listed {
     /// All actions of a list.
     pub fn new(list: Vec<Action>) -> Listed
@@ -70,4 +59,15 @@ impl Listed {
         self.at += 1;
         Some(action)
     }
+}
+
+impl Model for Listed {
+    ghost use Rattle.std.specs.Prelude.{◌≤◌, List, length, drop};
+    ghost use Rattle.plan_types.specs.declared.action.Action.{Action};
+
+    ghost Value = { List Action };
+
+    ghost view = { λ l. drop l.at l.list.items };
+
+    ghost invariant = { λ l. l.at ≤ length l.list.items };
 }

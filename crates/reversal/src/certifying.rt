@@ -1,11 +1,10 @@
 // Whether a list is the least by its certificate: of all valid lists, or of its class.
 ghost use Rattle.std.specs.Prelude.{◌≡◌, ℕ, ◌≤◌, List, length, IfOk, IfErr};
-ghost use Rattle.plan_types.specs.declared.limits.TheConstants.{MOST_ACTIONS, MOST_STEPS};
+ghost use Rattle.plan_types.specs.declared.limits.TheConstants.{MOST_STEPS};
 ghost use Rattle.level_book.specs.Prelude.{Valid};
 ghost use Rattle.cert_text.specs.Prelude.{IsCertificateText, HasFirstFault};
-ghost use Rattle.bound_cert.specs.Prelude.{class_of, IsAccepted};
 ghost use Rattle.endings.specs.Prelude.{bad_certificate};
-ghost use Rattle.reversal.specs.Prelude.{least_line, DecidesCertify, IsRefusal, IsUnweighed, IsDecided};
+ghost use Rattle.reversal.specs.Prelude.{least_line, DecidesCertify, IsRefusal, IsDecided};
 
 use crate::decision::valid_in;
 use crate::job::Job;
@@ -13,7 +12,7 @@ use bound_cert::{CertVerdict, Class, check_certificate};
 use cert_text::{Certificate, read_certificate};
 use endings::Outcome;
 use level_book::Book;
-use plan_types::{Action, Line};
+use plan_types::Line;
 use std::alloc::Global;
 
 /// The decision on a request to certify a list.
@@ -31,8 +30,11 @@ pub fn decide_certify(
 {
     let (book, list) = valid_in(alloc, steps, book, schedule)?;
     let certificate = certificate_in(alloc, certificate, steps, &book)?;
-    let class = weigh(alloc, &list, steps, &book, &certificate)?;
-    Ok(Job::Write(least_line(class)))
+    let verdict = check_certificate(alloc, &list, steps, &book, &certificate)?;
+    match verdict {
+        CertVerdict::Least(class) => Ok(Job::Write(least_line(class))),
+        CertVerdict::Not(reason) => Err(Outcome::NotLeast(reason)),
+    }
 }
 
 // The text for a list that is the least of its class.
@@ -64,24 +66,5 @@ fn certificate_in(
     match read_certificate(alloc, bytes, steps, book) {
         Ok(certificate) => Ok(certificate),
         Err(fault) => Err(Outcome::bad_certificate(fault)),
-    }
-}
-
-// The class in which a valid list is the least by its certificate.
-fn weigh(
-    alloc: Global,
-    list: &[Action],
-    steps: u32,
-    book: &Book,
-    certificate: &Certificate,
-) -> Result<Class, Outcome>
-    requires steps { steps ≤ MOST_STEPS }
-    requires few { length list.now ≤ MOST_ACTIONS }
-    ensures accepted { IfOk result (λ class. (class ≡ class_of certificate.now) × IsAccepted list.now steps book.now certificate.now) }
-    ensures refused { IfErr result (IsUnweighed steps book.now list.now certificate.now) }
-{
-    match check_certificate(alloc, list, steps, book, certificate)? {
-        CertVerdict::Least(class) => Ok(class),
-        CertVerdict::Not(reason) => Err(Outcome::NotLeast(reason)),
     }
 }

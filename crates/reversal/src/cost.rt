@@ -1,9 +1,9 @@
 // What a schedule costs.
 ghost use Rattle.std.specs.Prelude.{◌≡◌, ℕ, ◌*◌, ◌^◌, ◌<◌, ◌≤◌, List, length};
 ghost use Rattle.plan_types.specs.declared.limits.TheConstants.{MOST_ACTIONS, MOST_COST, MOST_STEPS};
-ghost use Rattle.level_book.specs.Prelude.{slots_of, Valid};
 ghost use Rattle.cost_fold.specs.Prelude.{all_of};
 ghost use Rattle.cost_report.specs.Prelude.{report_lines};
+ghost use Rattle.level_book.specs.Prelude.{slots_of, Valid};
 ghost use Rattle.reversal.specs.Prelude.{write, Moment, beside, EndsShowing, course_of, DecidesCost, IsDecided, list_report};
 
 use crate::decision::valid_in;

@@ -1,8 +1,7 @@
 // The list of DiskRevolve for memory and an unlimited disk, and its tables, as text.
 ghost use Rattle.std.specs.Prelude.{◌≡◌, ◌⊎◌, ℕ, ◌≤◌, List, IfOk, IfErr, OnOk};
-ghost use Rattle.level_book.specs.Prelude.{IsGreatestDisk};
 ghost use Rattle.cost_tables.specs.Prelude.{FastestTablesFit};
-ghost use Rattle.disk_gen.specs.Prelude.{HasDiskPlan, AreDiskFor, disk_tables_in};
+ghost use Rattle.disk_gen.specs.Prelude.{HasDiskPlan, AreGreatestDiskFor};
 ghost use Rattle.endings.specs.Prelude.{no_memory};
 ghost use Rattle.reversal.specs.Prelude.{DecidesPlanDisk, IsDecided, IsUndisked};
 
@@ -67,8 +66,7 @@ fn tables_for<R: Threads + Sync>(
 ) -> Result<DiskTables, Outcome>
     requires workers { (1 ≤ workers) × (workers ≤ 64) }
     requires fits { FastestTablesFit steps book.now }
-    ensures sizes { IfOk result (AreDiskFor steps book.now) }
-    ensures greatest { IfOk result (λ t. IsGreatestDisk steps book.now (disk_tables_in t)) }
+    ensures tables { IfOk result (AreGreatestDiskFor steps book.now) }
     ensures plan { OnOk result (HasDiskPlan book.now) }
     ensures refused { IfErr result (λ e. (e ≡ no_memory) ⊎ IsUndisked steps book.now e) }
 {

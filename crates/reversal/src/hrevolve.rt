@@ -1,7 +1,7 @@
 // The list of H-Revolve for the levels of a book, and its tables, as text.
 ghost use Rattle.std.specs.Prelude.{◌≡◌, ◌⊎◌, ℕ, ◌<◌, ◌≤◌, List, length, IfOk, IfErr, OnOk, MatchOption};
-ghost use Rattle.level_book.specs.Prelude.{room, slots_of, Nested, IsGreatest};
-ghost use Rattle.cost_tables.specs.Prelude.{AreFor, TablesFit, tables_in};
+ghost use Rattle.level_book.specs.Prelude.{room, slots_of, Nested};
+ghost use Rattle.cost_tables.specs.Prelude.{AreGreatestFor, tables_in};
 ghost use Rattle.hrevolve_gen.specs.Prelude.{IsWritten, HasNestedPlan};
 ghost use Rattle.endings.specs.Prelude.{no_memory};
 ghost use Rattle.reversal.specs.Prelude.{IsFirstWide, DecidesPlanHrevolve, IsDecided, IsUnnested};
@@ -71,9 +71,7 @@ fn first_wide(steps: u32, book: &Book) -> Option<u8>
 
 // The list that is read from the tables for so many steps and a book.
 fn list_for(alloc: Global, tables: &Tables, steps: u32, book: &Book) -> Result<Vec<Action>, Outcome>
-    requires fits { TablesFit steps book.now }
-    requires sizes { AreFor steps book.now tables.now }
-    requires greatest { IsGreatest steps book.now (tables_in tables.now) }
+    requires { AreGreatestFor steps book.now tables.now }
     ensures list { IfOk result (λ list. IsWritten steps book.now (tables_in tables.now) list.items) }
     ensures nested { IfOk result (λ list. Nested steps (slots_of book.now) list.items) }
     ensures plan { OnOk result (HasNestedPlan steps book.now) }

@@ -6,7 +6,7 @@ ghost use Rattle.rv_machine.specs.Prelude.{MachineState, IsMachineState, state_n
 ghost use Rattle.keepers.specs.Prelude.{Images};
 ghost use Rattle.reverse_runner.specs.Prelude.{VisitorAfter, KeepersAre, told_by, calls_to, HaveRoom, image_room, rooms_by, AreRoomy, slot_counts};
 ghost use Rattle.reverse_console.specs.Answer.{IsAnswer, IsOrder};
-ghost use Rattle.reverse_console.specs.ConsoleState.{plan_of, source_of};
+ghost use Rattle.reverse_console.specs.ConsoleState.{plan_of, source_of, ConsoleState, console_code};
 ghost use Rattle.reverse_console.specs.Costs.{PutsMarks, looking, BreaksLooking};
 ghost use Rattle.reverse_console.specs.Marks.{span};
 ghost use Rattle.reverse_console.specs.MarkInvariant.{IsReady, source, Gets, Looks};
@@ -14,6 +14,7 @@ ghost use Rattle.reverse_console.specs.OrderResults.{IsPerformed, IsPerformedIn,
 ghost use Rattle.reverse_console.specs.StateSources.{ComesFrom, IsAnswerSeen};
 ghost use Rattle.reverse_console.specs.MarksOfRun.{Stands, MarksTell, KeepsMarks};
 ghost use Rattle.reverse_console.specs.declared.order.Order.{Order as AnOrder};
+ghost use Rattle.reverse_console.specs.ConsoleFields.{console_state, IsConsole};
 
 use crate::going::{go, set_marks};
 use crate::marked_run::MarkedRun;
@@ -36,20 +37,6 @@ pub struct Console {
     journal: Journal,
     place: u32,
     ended: bool,
-}
-
-impl Model for Console {
-    ghost use Rattle.reverse_console.specs.ConsoleState.{ConsoleState, console_code};
-
-    ghost Value = { ConsoleState };
-
-    ghost coded = { console_code };
-
-    ghost use Rattle.reverse_console.specs.ConsoleFields.{console_state, IsConsole};
-
-    ghost view = { console_state };
-
-    ghost invariant = { IsConsole };
 }
 
 impl Console {
@@ -182,6 +169,16 @@ impl Console {
         self.ended = outcome.is_err();
         outcome
     }
+}
+
+impl Model for Console {
+    ghost Value = { ConsoleState };
+
+    ghost coded = { console_code };
+
+    ghost view = { console_state };
+
+    ghost invariant = { IsConsole };
 }
 
 // Finds the new place of an order, and goes there, if there is one.

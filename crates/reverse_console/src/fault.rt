@@ -1,9 +1,10 @@
 // The rules of a line of a script.
+ghost use Rattle.reverse_console.specs.ScriptFaults.{number_of_rule};
 
 use line_texts::Rules;
 
 // By their numbers.
-#[derive(Clone, Copy)]
+#[derive(Drop)]
 pub(crate) enum Rule {
     NotCommand = 1,
     Number,
@@ -12,8 +13,6 @@ pub(crate) enum Rule {
 }
 
 impl Rules for Rule {
-    ghost use Rattle.reverse_console.specs.ScriptFaults.{number_of_rule};
-
     ghost number_of = { number_of_rule };
 
     fn number(self) -> u8 {

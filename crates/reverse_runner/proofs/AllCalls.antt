@@ -1,32 +1,17 @@
 -- How the calls of the keepers of a session add up.
-use Rattle.std.proofs.Common.{◌≡◌, ℕ, ◌+◌, ◌*◌, ◌∙◌, false, refl, ap, sym, subst, arith}
-use Rattle.keepers.specs.Counts.{raised}
-use Rattle.plan_types.specs.declared.action.Keep.{Keep}
-use Rattle.plan_types.specs.declared.action.Keep.TheVariants.{Store}
-use Rattle.plan_types.specs.declared.action.Dest.{Dest}
-use Rattle.plan_types.specs.declared.action.Dest.TheVariants.{Work, Level}
-use Rattle.plan_types.specs.declared.action.Action.TheVariants.{Forward, Copy, Move}
-use Rattle.level_book.specs.CostFold.{is_write}
-use Rattle.reverse_runner.specs.KeepersSeen.{Calls, one_if, calls_of, RiseBy, RiseByAtMost, Called, CalledAtMost}
-use Rattle.reverse_runner.specs.KeeperCallEffects.{one_put, one_get}
+use Rattle.reverse_runner.proofs.Common.{◌≡◌, ℕ, ◌+◌, ◌*◌, ◌∙◌, false, refl, ap, sym, subst, arith, Forward, Copy, Move, Dest, Work, Level, Keep, Store, is_write, raised, one_put, one_get, Calls, one_if, calls_of, RiseBy, RiseByAtMost, Called, CalledAtMost}
 
 -- these calls and then those
 abbrev pub calls_then : Calls → Calls → Calls
 calls_then m n = record { puts = λ k. m.puts k + n.puts k; gets = λ k. m.gets k + n.gets k; frees = λ k. m.frees k + n.frees k }
 
--- a number of calls after some more and then more
-raised_then : (a j k : ℕ) → raised (raised a j) k ≡ raised a (j + k)
-raised_then a j k = omega arith
-
 -- numbers rise by so much and then by so much
 rise_then : (m n a b c : ℕ → ℕ) → RiseBy m a b → RiseBy n b c → RiseBy (λ k. m k + n k) a c
-rise_then m n a b c first second k = second k ∙ ap (λ x. raised x (n k)) (first k) ∙ raised_then (a k) (m k) (n k)
+rise_then m n a b c first second k = (let x = first k in let y = second k in omega (arith, x, y))
 
 -- numbers that rise by so much rise by at most so much
 rise_at_most : (m a b : ℕ → ℕ) → RiseBy m a b → RiseByAtMost m a b
-rise_at_most m a b rise k =
-    let e = rise k in
-    (omega (arith, e), omega (arith, e))
+rise_at_most m a b rise k = (let e = rise k in (omega (arith, e), omega (arith, e)))
 
 -- numbers that rise by so much rise by as much
 rise_same : (m n a b : ℕ → ℕ) → RiseBy m a b → ((k : ℕ) → m k ≡ n k) → RiseBy n a b

@@ -1,49 +1,13 @@
 -- Over any keepers the holdings of a session stand by the digests of the levels after every action as before it, or the images of two
 -- states collide.
-use Rattle.std.proofs.Common.{◌≡◌, ◌≢◌, ℕ, ◌*◌, ◌⊎◌, inl, inr, List, get_or, set as put, refl, sym, ◌∙◌, ap, subst, arith, Option, Some, None}
+use Rattle.reverse_runner.proofs.Common.{◌≡◌, ℕ, ◌∙◌, refl, ap, sym, ◌≢◌, ◌⊎◌, inl, inr, List, get_or, set as put, Option, Some, None, mul-zero, cases_eq, cases_Bool, get_or-set_same, get_or-set_other, same_Some, none-some, sha256, Action, Configuration, start, held_on, Goes, Slots, Count, IsSound, IsRecorded, MachineState, IsMachineState, state_number, image, Images, none_at, is_within, kept_in, pair_at, ShelfState, Kept, Holdings, Acts, KeepsDigests, StandsByDigests, taken_in, Collides, IsLaidOut, begun, holdings_of, unit_states}
 use Rattle.std.specs.Str.{bytes_eq}
-use Rattle.std.proofs.Math.Nat.{mul-zero}
-use Rattle.std.proofs.lemmas.Bool.{cases_eq, cases_Bool}
 use Rattle.std.proofs.lemmas.Bool.Decides.{not_from_Decides}
 use Rattle.std.proofs.lemmas.Slice.Eq.{bytes_eq-Decides}
-use Rattle.std.proofs.lemmas.List.{get_or-set_same, get_or-set_other}
-use Rattle.std.proofs.lemmas.Option.{same_Some, none-some}
-use Rattle.sha2.specs.Sha256.{sha256}
-use Rattle.keepers.specs.Claims.{Images}
-use Rattle.plan_types.specs.declared.action.Keep.TheVariants.{Nothing, Store, Tape}
-use Rattle.plan_types.specs.declared.action.Dest.TheVariants.{Work, Level}
-use Rattle.plan_types.specs.declared.action.Action.{Action}
-use Rattle.plan_types.specs.declared.action.Action.TheVariants.{Forward, Reverse, Copy, Move, EndForward, EndReverse}
-use Rattle.level_book.specs.declared.book.Slots.{Slots}
-use Rattle.level_book.specs.declared.book.Slots.TheVariants.{Count}
-use Rattle.level_book.specs.Configuration.{Configuration, start, held_on}
-use Rattle.level_book.specs.Moves.{Goes}
-use Rattle.schedule_rules.specs.Reachability.{IsSound}
-use Rattle.input_journal.specs.Form.{IsRecorded}
-use Rattle.rv_pages.specs.Memory.{page_numbers}
-use Rattle.rv_machine.specs.MachineState.{MachineState, IsMachineState}
-use Rattle.rv_machine.specs.States.{state_number}
-use Rattle.rv_machine.proofs.Runs.{state_number_keeps_pages}
-use Rattle.rv_machine.proofs.StateInvariant.{number_is_state}
-use Rattle.state_image.specs.Image.{image}
-use Rattle.state_image.proofs.ImageInjectivity.{image_tells}
-use Rattle.image_store.specs.declared.shelf.Kept.{Kept}
-use Rattle.image_store.specs.Pairs.{pair_at}
-use Rattle.image_store.specs.Shelves.{ShelfState}
-use Rattle.image_store.specs.Calls.{kept_in}
-use Rattle.image_store.proofs.SlotAllocation.{is_within}
-use Rattle.reverse_runner.specs.Units.{unit_states}
-use Rattle.reverse_runner.specs.ActionEffects.{Holdings, IsDecoded, Acts}
-use Rattle.reverse_runner.specs.HoldingsOfRun.{IsLaidOut}
-use Rattle.reverse_runner.specs.Collision.{KeepsDigests, StandsByDigests, taken_in, Collides}
-use Rattle.reverse_runner.specs.SessionState.{holdings_of}
-use Rattle.reverse_runner.specs.SessionOfRun.{begun}
 use Rattle.reverse_runner.proofs.RoomLeft.{has_place}
-use Rattle.reverse_runner.proofs.Rooms.{none_on}
 use Rattle.reverse_runner.proofs.LevelFacts.{LevelFact, Gains, Loses, StoredAreGood, FetchedAreGood, levels_follow}
 use Rattle.reverse_runner.proofs.LevelsInvariant.{LaidOut, laid_gains, laid_loses, fetched_within}
-use Rattle.reverse_runner.proofs.StatesInvariant.{advanced, stayed}
-use Rattle.reverse_runner.proofs.HoldingsInvariant.{tape_after}
+use Rattle.reverse_runner.proofs.HoldingsInvariant.{stored_are, taken_is, work_after, tape_after}
 
 -- two lists of bytes are one, or two
 same_bytes : (xs ys : List ℕ) → (xs ≡ ys) ⊎ (xs ≢ ys)
@@ -97,9 +61,7 @@ digests_lose states steps slots k s level level' before after n old has is gone 
 -- bytes that are stored are the image of the state in work
 stored_have : (first : MachineState) (journal : List (List ℕ)) (unit steps : ℕ) (slots : List Slots) (c : Configuration) (a : Action) (d : Configuration) (s : Holdings) → Goes steps slots c a d →
     s.work ≡ unit_states first journal unit c.work → StoredAreGood (HasDigest (unit_states first journal unit)) a s
-stored_have first journal unit steps slots c a d s g here from to k e =
-    let P : Action → Type 0 = λ x. Goes steps slots c x d in
-    ap (λ x. sha256 (image x)) (here ∙ ap (unit_states first journal unit) (subst P e g).1.here)
+stored_have first journal unit steps slots c a d s g here from to k e = ap sha256 (stored_are first journal unit steps slots c a d s g here from to k e)
 
 -- bytes that are fetched have the digest that is kept
 fetched_have : (states : ℕ → MachineState) (steps : ℕ) (slots : List Slots) (c : Configuration) (s : Holdings) → IsLaidOut steps slots c s.levels.store →
@@ -119,57 +81,6 @@ digests_after first journal unit steps slots c a d old new sound g acts laid sta
     sound laid.levels g acts (stored_have first journal unit steps slots c a d old g stands.work) (fetched_have states steps slots c old laid stands.digests)
     (λ j lt. (laid.each j lt, λ m kept at. stands.digests j m kept lt at)) k within).1 n kept at
 
--- a state that an action takes in has the digest that is kept
-taken_has : (states : ℕ → MachineState) (journal : List (List ℕ)) (unit steps : ℕ) (slots : List Slots) (c : Configuration) (a : Action) (d : Configuration) (old new : Holdings) (n : ℕ) →
-    Goes steps slots c a d → Acts unit journal a old new → IsLaidOut steps slots c old.levels.store → KeepsDigests states old.levels.store → taken_in a ≡ Some n →
-    HasDigest states n (image new.work)
-taken_has states journal unit steps slots c (Copy m k Work) d old new n g acts laid keeps takes =
-    let got = acts.does.0 in
-    let level = g.1.level in
-    let levels = laid.levels in
-    ap sha256 got.1.1.1 ∙ (fetched_have states steps slots c old laid keeps m k got.0 (omega (arith, level, levels)) g.1.there got.1.0).0
-    ∙ ap (λ i. sha256 (image (states i))) (same_Some m n takes)
-taken_has states journal unit steps slots c (Move m k Work) d old new n g acts laid keeps takes =
-    let got = acts.does.0 in
-    let level = g.1.level in
-    let levels = laid.levels in
-    ap sha256 got.1.1.1 ∙ (fetched_have states steps slots c old laid keeps m k got.0 (omega (arith, level, levels)) g.1.there got.1.0).0
-    ∙ ap (λ i. sha256 (image (states i))) (same_Some m n takes)
-taken_has states journal unit steps slots c (Copy m k (Level j)) d old new n g acts laid keeps takes = absurd (none-some n takes)
-taken_has states journal unit steps slots c (Move m k (Level j)) d old new n g acts laid keeps takes = absurd (none-some n takes)
-taken_has states journal unit steps slots c (Forward from to keep) d old new n g acts laid keeps takes = absurd (none-some n takes)
-taken_has states journal unit steps slots c (Reverse from to) d old new n g acts laid keeps takes = absurd (none-some n takes)
-taken_has states journal unit steps slots c EndForward d old new n g acts laid keeps takes = absurd (none-some n takes)
-taken_has states journal unit steps slots c EndReverse d old new n g acts laid keeps takes = absurd (none-some n takes)
-
--- a state whose image is that of the run's is the run's
-loaded : (first : MachineState) (journal : List (List ℕ)) (unit : ℕ) (c d e : Configuration) (n : ℕ) (work work' : MachineState) (got : List ℕ) → IsMachineState first → IsRecorded journal →
-    work ≡ unit_states first journal unit c.work → image work' ≡ image (unit_states first journal unit n) → IsDecoded work work' got → d ≡ e → e.work ≡ n → work' ≡ unit_states first journal unit d.work
-loaded first journal unit c d e n work work' got is recorded here same decoded at where_ =
-    let pages = decoded.2 ∙ ap (λ (x : MachineState). page_numbers x.memory) here ∙ state_number_keeps_pages first journal (unit * c.work)
-    ∙ sym (state_number_keeps_pages first journal (unit * n)) in
-    image_tells work' (unit_states first journal unit n) decoded.0 (number_is_state first journal (unit * n) is recorded) pages same
-    ∙ ap (unit_states first journal unit) (sym where_ ∙ sym (ap (λ (x : Configuration). x.work) at))
-
--- the state in work is that of the configuration, where the image of a state that was taken in is that of the run's
-work_after : (first : MachineState) (journal : List (List ℕ)) (unit steps : ℕ) (slots : List Slots) (c : Configuration) (a : Action) (d : Configuration) (old new : Holdings) →
-    IsMachineState first → IsRecorded journal → Goes steps slots c a d → Acts unit journal a old new → old.work ≡ unit_states first journal unit c.work →
-    ((n : ℕ) → taken_in a ≡ Some n → image new.work ≡ image (unit_states first journal unit n)) → new.work ≡ unit_states first journal unit d.work
-work_after first journal unit steps slots c (Forward from to Nothing) d old new is recorded g acts here same = advanced first journal unit c d _ from to old.work new.work here g.1 g.2 refl acts.does.0
-work_after first journal unit steps slots c (Forward from to (Store k)) d old new is recorded g acts here same = advanced first journal unit c d _ from to old.work new.work here g.1 g.3 refl acts.does.0
-work_after first journal unit steps slots c (Forward from to Tape) d old new is recorded g acts here same = advanced first journal unit c d _ from to old.work new.work here g.1 g.5 refl acts.does.0
-work_after first journal unit steps slots c (Reverse from to) d old new is recorded g acts here same = stayed first journal unit c d _ old.work new.work here g.5 refl acts.does.0
-work_after first journal unit steps slots c (Copy n k Work) d old new is recorded g acts here same =
-    let got = acts.does.0 in
-    loaded first journal unit c d _ n old.work new.work got.0 is recorded here (same n refl) got.1.1 g.2 refl
-work_after first journal unit steps slots c (Copy n k (Level j)) d old new is recorded g acts here same = stayed first journal unit c d _ old.work new.work here g.4 refl acts.does.0
-work_after first journal unit steps slots c (Move n k Work) d old new is recorded g acts here same =
-    let got = acts.does.0 in
-    loaded first journal unit c d _ n old.work new.work got.0 is recorded here (same n refl) got.1.1 g.2 refl
-work_after first journal unit steps slots c (Move n k (Level j)) d old new is recorded g acts here same = stayed first journal unit c d _ old.work new.work here g.4 refl acts.does.0
-work_after first journal unit steps slots c EndForward d old new is recorded g acts here same = stayed first journal unit c d _ old.work new.work here g.3 refl acts.does.0
-work_after first journal unit steps slots c EndReverse d old new is recorded g acts here same = stayed first journal unit c d _ old.work new.work here g.3 refl acts.does.0
-
 -- no state was taken in, or its image is that of the run's, or the two collide
 right_or_collides : (states : ℕ → MachineState) (a : Action) (work : MachineState) (taken : Option ℕ) → taken_in a ≡ taken → ((n : ℕ) → taken_in a ≡ Some n → HasDigest states n (image work)) →
     ((n : ℕ) → taken_in a ≡ Some n → image work ≡ image (states n)) ⊎ Collides states a work
@@ -185,7 +96,7 @@ pub stand_or_collide : (first : MachineState) (journal : List (List ℕ)) (unit 
     StandsByDigests first journal unit c old → StandsByDigests first journal unit d new ⊎ Collides (unit_states first journal unit) a new.work
 stand_or_collide first journal unit steps slots c a d old new is recorded sound g acts laid stands =
     let states = unit_states first journal unit in
-    elim (right_or_collides states a new.work (taken_in a) refl (λ n takes. taken_has states journal unit steps slots c a d old new n g acts laid stands.digests takes)) [
+    elim (right_or_collides states a new.work (taken_in a) refl (λ n takes. taken_is (HasDigest states) journal unit steps slots c a d old new n g acts laid.levels (fetched_have states steps slots c old laid stands.digests) takes)) [
       | inl same ↦ inl (record {
         work = work_after first journal unit steps slots c a d old new is recorded g acts stands.work same;
         tape = tape_after first journal unit steps slots c a d old new g acts stands.work stands.tape;
@@ -200,5 +111,5 @@ pub begun_by_digests : (first : MachineState) (journal : List (List ℕ)) (unit 
 begun_by_digests first journal unit steps slots told = record {
   work = ap (state_number first journal) (sym (mul-zero unit));
   tape = tt;
-  digests = λ k n kept within at. absurd (none-some kept (sym (none_on slots steps k n) ∙ at));
+  digests = λ k n kept within at. absurd (none-some kept (sym (none_at slots steps k n) ∙ at));
 }

@@ -1,22 +1,8 @@
 -- What follows from a call on an image of one level.
-use Rattle.std.proofs.Common.{◌≡◌, ◌≢◌, ℕ, vec_len, IfOk, List, [], length, set, Vec, Result, Ok, Err, Option, Some, None, IsSome, IfErr, OnOk, OnErr, refl, sym, ◌∙◌, ap, subst, arith}
-use Rattle.std.proofs.Math.ListN.{length-set}
-use Rattle.std.proofs.lemmas.List.{get_or-set_other, set-get_or}
-use Rattle.keepers.specs.Claims.{Images}
-use Rattle.keepers.specs.declared.storage.Storage.{Ghosts}
-use Rattle.image_store.specs.declared.shelf.Kept.{Kept}
-use Rattle.image_store.specs.declared.shelf.StoreFault.{StoreFault}
+use Rattle.reverse_runner.proofs.Common.{◌≡◌, ℕ, ◌∙◌, refl, ap, sym, subst, arith, ◌≢◌, List, set, Option, Some, None, vec_len, IfOk, [], length, Vec, Result, Ok, Err, IsSome, IfErr, OnOk, OnErr, length-set, get_or-set_other, set-get_or, on_ok_weaker, on_err_weaker, Images, Ghosts, IsKept, IsNotKept, IsGot, IsFreed, IsNotFreed, ShelfState, level_of, kept_at, KeepsPair, FetchesPair, ReleasesPair, LevelStands, Kept, StoreFault, KeepGives, FetchGives, ReleaseGives, answer_on, CallsAt, fault_on, IsKeeping, IsFetching, by_number, told_by}
 use Rattle.image_store.specs.declared.shelf.StoreFault.TheVariants as store
-use Rattle.image_store.specs.Calls.{IsKept, IsNotKept, IsGot, IsFreed, IsNotFreed}
-use Rattle.image_store.specs.Shelves.{ShelfState, level_of, kept_at}
-use Rattle.image_store.specs.StoredImages.{LevelStands}
-use Rattle.image_store.specs.StoreCalls.{KeepsPair, FetchesPair, ReleasesPair}
 use Rattle.reverse_runner.specs.declared.fault.RunFault.{RunFault}
 use Rattle.reverse_runner.specs.declared.fault.RunFault.TheVariants.{Damaged, Memory}
-use Rattle.reverse_runner.specs.Desks.{answer_on, CallsAt}
-use Rattle.reverse_runner.specs.DeskGives.{KeepGives, FetchGives, ReleaseGives}
-use Rattle.reverse_runner.specs.KeepersSeen.{by_number, told_by}
-use Rattle.reverse_runner.specs.KeeperCallEffects.{fault_on, IsKeeping, IsFetching}
 use Rattle.reverse_runner.proofs.OneKeeper.{some_kept, damage_is, never_damage}
 use Rattle.reverse_runner.proofs.Rooms.{memory_is, roomy_is, short_kept, short_released, short_same}
 use Rattle.reverse_runner.proofs.KeeperCalls.{put_at, get_at, free_at, keepers_are, told_else, told_there, told_same}
@@ -43,14 +29,6 @@ module _ {A : Type 0} (k : ℕ) where
   damage (Ok x) j put got e = absurd cc
   damage (Err f) j put got e = (let is = damage_is k f j put got cc in (is.0, ap (λ f. Err f) is.1))
 
-map_ok : {A E P Q : Type 0} (a : Result A E) → (P → Q) → OnOk a P → OnOk a Q
-map_ok (Ok x) f h = f h
-map_ok (Err e) f h = tt
-
-map_err : {A E P Q : Type 0} (a : Result A E) → (P → Q) → OnErr a P → OnErr a Q
-map_err (Ok x) f h = tt
-map_err (Err e) f h = f h
-
 both_ok : {A E P Q R : Type 0} (a : Result A E) → (P → Q → R) → OnOk a P → OnOk a Q → OnOk a R
 both_ok (Ok x) f h i = f h i
 both_ok (Err e) f h i = tt
@@ -76,10 +54,10 @@ module _ {K : Type 0} (g : Ghosts K) (k n : ℕ) (old new : List ShelfState) (ks
 
     pub keep_gives : KeepGives g k n buffer r old new ks ls
     keep_gives = record {
-      keeps = on_ok k _ r c.answer c.is (map_ok c.answer
+      keeps = on_ok k _ r c.answer c.is (on_ok_weaker c.answer
           (λ kept. subst (λ (o : Option Images). IsKept (level_of old k) (level_of new k) n buffer.items o (told_by g ls k)) (sym told_k.0)
           (subst (λ (o : Option Images). IsKept (level_of old k) (level_of new k) n buffer.items (g.told c.before) o) (sym told_k.1) kept)) c.does.ok);
-      left = on_err k _ r c.answer c.is (map_err c.answer
+      left = on_err k _ r c.answer c.is (on_err_weaker c.answer
           (λ not. subst (λ (o : Option Images). IsNotKept (level_of old k) o (told_by g ls k)) (sym told_k.0)
           (subst (λ (o : Option Images). IsNotKept (level_of old k) (g.told c.before) o) (sym told_k.1) not)) c.does.left);
       others = λ j ne. (other_level j ne, told_else g k (λ a. KeepsPair g n buffer.items a (level_of old k) (level_of new k)) r ks ls c None g.told j ne);
@@ -113,7 +91,7 @@ module _ {K : Type 0} (g : Ghosts K) (k n : ℕ) (old new : List ShelfState) (ks
                   (subst (λ (o : Option Images). IsFreed pair.0 (g.told c.before) o) (sym told_k'.1) (freed pair.0 pair.1)),
             ),
           )) c.does.ok c.does.freed));
-      left = on_err k _ r c.answer c.is (map_err c.answer
+      left = on_err k _ r c.answer c.is (on_err_weaker c.answer
           (λ not kept at. subst (λ (o : Option Images). IsNotFreed kept o (told_by g ls k)) (sym told_k'.0)
           (subst (λ (o : Option Images). IsNotFreed kept (g.told c.before) o) (sym told_k'.1) (not kept at))) c.does.left);
       others = λ j ne. (other_level j ne, told_else g k (λ a. ReleasesPair g n a (level_of old k) (level_of new k)) r ks ls c None g.told j ne);
@@ -154,7 +132,7 @@ module _ {K Z : Type 0} (g : Ghosts K) (k n : ℕ) (level : List ShelfState) (ks
 
   pub fetch_gives : FetchGives g k n into into' r level level ks ls
   fetch_gives = record {
-    fetched = on_ok k _ r c.answer c.is (map_ok c.answer
+    fetched = on_ok k _ r c.answer c.is (on_ok_weaker c.answer
         (λ got. (let it = got pair.0 pair.1 in (pair.0, pair.1, subst (λ (o : Option Images). IsGot pair.0 o into'.items) (sym told_f.0) it.0, (let few = it.1 in omega (arith, few, whole)), it.2))) c.does.ok);
     damaged = λ j put got e.
         (let is = damage k c.answer j put got (sym c.is ∙ e) in
@@ -173,7 +151,7 @@ module _ {K Z : Type 0} (g : Ghosts K) (k n : ℕ) (level : List ShelfState) (ks
     sound = λ images stands. keeping k r c.answer c.is (c.does.sound images (subst (λ (o : Option Images). LevelStands (level_of level k) o images) told_f.0 stands));
     digest = digest_is k r c.answer _ c.is c.does.digest;
     fault = fetching k r c.answer c.is;
-    few = λ most short. on_ok k _ r c.answer c.is (map_ok c.answer (λ got. (let it = got pair.0 pair.1 in let few = it.1 in let at = short k n pair.0 pair.1 in omega (arith, few, at))) c.does.ok);
+    few = λ most short. on_ok k _ r c.answer c.is (on_ok_weaker c.answer (λ got. (let it = got pair.0 pair.1 in let few = it.1 in let at = short k n pair.0 pair.1 in omega (arith, few, at))) c.does.ok);
     roomy = λ most has short reserved e.
         (let room = roomy_is most _ has in
         let there = told_there g k Does r ks ls c None g.room_bytes in

@@ -1,22 +1,7 @@
 -- The keeper of a level that stands and is alone holds just the images of the states that the level holds.
-use Rattle.std.proofs.Common.{◌≡◌, ℕ, ◌<◌, Bool, true, false, cond, List, length, Option, Some, None, IsSome, refl, sym, ◌∙◌, ap, subst}
-use Rattle.std.specs.Option.{option_map_or}
+use Rattle.reverse_runner.proofs.Common.{◌≡◌, ℕ, ◌∙◌, false, refl, ap, sym, subst, List, Option, Some, None, length, IsSome, ◌<◌, Bool, true, cond, false≢true, option_map_or, Configuration, held_on, MachineState, image, Images, found, pair_at, level_of, IsKeptAs, KeepsAs, IsToldAnd, Alone, Kept, Holdings, Numbers, AreImages, HoldingsStandAt, AreAlone, HoldsJust, unit_states}
 use Rattle.std.specs.FinSet as set
 use Rattle.std.specs.FinMap as finmap
-use Rattle.std.proofs.lemmas.Bool.{false≢true}
-use Rattle.level_book.specs.Configuration.{Configuration, held_on}
-use Rattle.keepers.specs.Claims.{Images}
-use Rattle.rv_machine.specs.MachineState.{MachineState}
-use Rattle.state_image.specs.Image.{image}
-use Rattle.image_store.specs.declared.shelf.Kept.{Kept}
-use Rattle.image_store.specs.Pairs.{pair_at}
-use Rattle.image_store.specs.Shelves.{level_of}
-use Rattle.image_store.specs.StoredImages.{IsKeptAs, KeepsAs, IsToldAnd, Alone}
-use Rattle.image_store.proofs.LevelImages.{found}
-use Rattle.reverse_runner.specs.Units.{unit_states}
-use Rattle.reverse_runner.specs.ActionEffects.{Holdings}
-use Rattle.reverse_runner.specs.HoldingsOfRun.{Numbers, AreImages, HoldingsStandAt, AreAlone}
-use Rattle.reverse_runner.specs.KeeperContents.{HoldsJust}
 
 -- the slot of a pair, and 0 where it isn't held
 abbrev slot_of : List (Option Kept) → ℕ → ℕ

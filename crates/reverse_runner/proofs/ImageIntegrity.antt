@@ -1,30 +1,14 @@
 -- Where the holdings of a session stand, an image that is held is that of a state of the run, and can be decoded.
-use Rattle.std.proofs.Common.{◌≡◌, ℕ, ◌*◌, ◌<◌, true, cond, List, length, Some, None, sym, ◌∙◌, ap, arith}
+use Rattle.reverse_runner.proofs.Common.{◌≡◌, ℕ, ◌*◌, ◌∙◌, ap, sym, arith, List, Some, None, length, ◌<◌, true, cond, Configuration, held_on, Slots, page_numbers, IsRecorded, state_number_keeps_pages, number_is_state, MachineState, IsMachineState, image, Images, level_of, LevelStands, Holdings, IsFetched, IsLaidOut, HoldingsStandAt, LevelStandsAt, unit_states}
 use Rattle.std.specs.FinSet as set
 use Rattle.std.specs.FinMap as finmap
-use Rattle.level_book.specs.declared.book.Slots.{Slots}
-use Rattle.level_book.specs.Configuration.{Configuration, held_on}
-use Rattle.input_journal.specs.Form.{IsRecorded}
-use Rattle.keepers.specs.Claims.{Images}
-use Rattle.rv_pages.specs.Memory.{page_numbers}
-use Rattle.rv_machine.specs.MachineState.{MachineState, IsMachineState}
-use Rattle.rv_machine.proofs.Runs.{state_number_keeps_pages}
-use Rattle.rv_machine.proofs.StateInvariant.{number_is_state}
-use Rattle.state_image.specs.Image.{image}
-use Rattle.image_store.specs.Shelves.{level_of}
-use Rattle.image_store.specs.StoredImages.{LevelStands}
-use Rattle.reverse_runner.specs.Units.{unit_states}
-use Rattle.reverse_runner.specs.ActionEffects.{Holdings, IsFetched}
-use Rattle.reverse_runner.specs.HoldingsOfRun.{HoldingsStandAt, LevelStandsAt, IsLaidOut}
 use Rattle.reverse_runner.proofs.LevelsInvariant.{fetched_is}
 
 -- a level of the book stands for the images of the states that it holds
 level_stands : (first : MachineState) (journal : List (List ℕ)) (unit steps : ℕ) (slots : List Slots) (c : Configuration) (s : Holdings) (k : ℕ) →
     HoldingsStandAt first journal unit c s → IsLaidOut steps slots c s.levels.store → k < length slots →
     LevelStandsAt (unit_states first journal unit) (held_on c k) (level_of s.levels.store k) (s.levels.told k)
-level_stands first journal unit steps slots c s k stands laid within =
-    let levels = laid.levels in
-    stands.levels k (omega (arith, within, levels))
+level_stands first journal unit steps slots c s k stands laid within = stands.levels k (omega (arith, within, laid.levels))
 
 -- the level stands for images among which that of the state is
 pub held_stands : (first : MachineState) (journal : List (List ℕ)) (unit steps : ℕ) (slots : List Slots) (c : Configuration) (s : Holdings) (k n : ℕ) →

@@ -1,18 +1,9 @@
 -- What follows from a call of one keeper: which calls were counted, and what is left of the keepers.
-use Rattle.std.proofs.Common.{◌≡◌, ◌≢◌, ℕ, ◌<◌, ◌≤◌, List, length, get_or, set, slice_get, Result, Ok, Err, Option, Some, None, refl, sym, ◌∙◌, ap, subst, inl, inr, arith}
-use Rattle.std.proofs.lemmas.Option.{slice_get-get_or, slice_get_past}
-use Rattle.std.proofs.lemmas.Bool.{cases_eq, cases_lt}
+use Rattle.reverse_runner.proofs.Common.{◌≡◌, ℕ, ◌∙◌, refl, ap, sym, subst, arith, ◌≢◌, inl, inr, List, get_or, set, Option, Some, None, length, Result, Ok, Err, ◌<◌, ◌≤◌, slice_get, cases_eq, cases_lt, slice_get-get_or, slice_get_past, Images, Rose, Ghosts, StoreFault, answer_on, CallsAt, KeepersAre, one_put, one_get, one_free, Called, by_number, calls_to}
 use Rattle.keepers.specs.Calls.{OnePut, OneGet, OneFree, Remains}
-use Rattle.keepers.specs.Counts.{Rose}
-use Rattle.keepers.specs.Claims.{Images}
-use Rattle.keepers.specs.declared.storage.Storage.{Ghosts}
-use Rattle.image_store.specs.declared.shelf.StoreFault.{StoreFault}
 use Rattle.image_store.specs.declared.shelf.StoreFault.TheVariants as store
 use Rattle.reverse_runner.specs.declared.fault.RunFault.{RunFault}
 use Rattle.reverse_runner.specs.declared.fault.RunFault.TheVariants.{Keeper}
-use Rattle.reverse_runner.specs.Desks.{answer_on, CallsAt, KeepersAre}
-use Rattle.reverse_runner.specs.KeepersSeen.{by_number, calls_to, Called}
-use Rattle.reverse_runner.specs.KeeperCallEffects.{one_put, one_get, one_free}
 use Rattle.reverse_runner.proofs.OneKeeper.{others_remain, seen_there, seen_before, seen_same, seen_else, remain, put_was_called, get_was_called, free_was_called}
 
 -- a keeper that is there

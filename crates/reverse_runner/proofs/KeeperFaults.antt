@@ -1,17 +1,7 @@
 -- What an answer says of faults: that of a call that was done, and that of a call that kept an image.
-use Rattle.std.proofs.Common.{◌≡◌, ◌≢◌, ℕ, List, Option, Result, Ok, Err, IfErr, IsTrue, Contains}
-use Rattle.std.proofs.lemmas.Result.{IfErr-at_err}
-use Rattle.keepers.specs.Claims.{Images}
-use Rattle.plan_types.specs.declared.action.Action.{Action}
-use Rattle.level_book.specs.Configuration.{Configuration}
-use Rattle.level_book.specs.Rules.{levels_named}
+use Rattle.reverse_runner.proofs.Common.{◌≡◌, ℕ, ◌≢◌, List, Option, Result, Ok, Err, IfErr, IsTrue, Contains, IfErr-at_err, Action, Configuration, levels_named, Images, Holdings, HasReason, IsSafe, IsKeeping, NotReached, calls_keepers}
 use Rattle.reverse_runner.specs.declared.fault.RunFault.{RunFault}
-use Rattle.reverse_runner.specs.declared.fault.RunFault.TheVariants.{Keeper, Damaged, Memory}
-use Rattle.reverse_runner.specs.ActionEffects.{Holdings}
-use Rattle.reverse_runner.specs.ActionOutcome.{HasReason, IsSafe}
-use Rattle.reverse_runner.specs.KeeperCallEffects.{IsKeeping}
-use Rattle.reverse_runner.specs.RefusalResidue.{NotReached}
-use Rattle.reverse_runner.specs.VisitorCalls.{calls_keepers}
+use Rattle.reverse_runner.specs.declared.fault.RunFault.TheVariants.{Keeper, Damaged}
 
 -- what was done has no fault
 pub no_reason : {A : Type 0} (x : A) (action : Action) (old : Holdings) (told : ℕ → Option Images) → HasReason {A = A} (Ok x) action old told

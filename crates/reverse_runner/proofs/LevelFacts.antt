@@ -1,25 +1,6 @@
 -- What holds of each level follows the configuration through every action.
-use Rattle.std.proofs.Common.{◌≡◌, ◌≢◌, ℕ, ◌<◌, true, false, length, List, get_or, set as put, sym, ◌∙◌, ap, refl, subst, arith, Option, Some, inl, inr}
+use Rattle.reverse_runner.proofs.Common.{◌≡◌, ℕ, ◌∙◌, false, refl, ap, sym, subst, arith, ◌≢◌, inl, inr, List, get_or, set as put, Option, Some, length, ◌<◌, true, length-set, cases_eq, get_or-set_same, get_or-set_other, Action, Forward, Copy, Move, Reverse, EndForward, EndReverse, Work, Level, Store, Nothing, Tape, Configuration, held_on, without_held, Goes, Slots, IsSound, image, Images, IsKept, IsFreed, without_pair, pair_at, ShelfState, level_of, Kept, Holdings, Acts, IsFetched, Levels, IsAsBefore, Numbers}
 use Rattle.std.specs.FinSet as set
-use Rattle.std.proofs.lemmas.Bool.{cases_eq}
-use Rattle.std.proofs.lemmas.List.{get_or-set_same, get_or-set_other}
-use Rattle.std.proofs.Math.ListN.{length-set}
-use Rattle.plan_types.specs.declared.action.Keep.TheVariants.{Nothing, Store, Tape}
-use Rattle.plan_types.specs.declared.action.Dest.TheVariants.{Work, Level}
-use Rattle.plan_types.specs.declared.action.Action.{Action}
-use Rattle.plan_types.specs.declared.action.Action.TheVariants.{Forward, Reverse, Copy, Move, EndForward, EndReverse}
-use Rattle.level_book.specs.declared.book.Slots.{Slots}
-use Rattle.level_book.specs.Configuration.{Configuration, held_on, without_held}
-use Rattle.level_book.specs.Moves.{Goes}
-use Rattle.schedule_rules.specs.Reachability.{IsSound}
-use Rattle.keepers.specs.Claims.{Images}
-use Rattle.state_image.specs.Image.{image}
-use Rattle.image_store.specs.declared.shelf.Kept.{Kept}
-use Rattle.image_store.specs.Pairs.{pair_at}
-use Rattle.image_store.specs.Shelves.{ShelfState, level_of}
-use Rattle.image_store.specs.Calls.{IsKept, IsFreed, without_pair}
-use Rattle.reverse_runner.specs.ActionEffects.{Levels, Holdings, IsAsBefore, IsFetched, Acts}
-use Rattle.reverse_runner.specs.HoldingsOfRun.{Numbers}
 
 -- what is asked of a level: of its number, of the numbers and the pairs that it holds, and of what its keeper tells
 abbrev pub LevelFact : Type 1

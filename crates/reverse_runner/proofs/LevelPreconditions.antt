@@ -1,40 +1,8 @@
 -- What an action asks of the levels, and what it does to them.
-use Rattle.std.proofs.Common.{◌≡◌, ◌≢◌, ℕ, ◌-◌, ◌*◌, ◌^◌, ◌<◌, ◌≤◌, List, [], ◌∷◌, length, map, get_or, Vec, vec_len, Option, Some, None, IsSome, Contains, add-zero, zero-add, refl, sym, ◌∙◌, ap, subst, inl, arith}
-use Rattle.std.proofs.lemmas.List.{get_or-map, length-map}
-use Rattle.std.proofs.lemmas.Option.{slice_get-get_or}
-use Rattle.std.specs.Option.{option_map_or}
-use Rattle.plan_types.specs.declared.action.Dest.{Dest}
-use Rattle.plan_types.specs.declared.action.Dest.TheVariants.{Work, Level}
-use Rattle.plan_types.specs.declared.action.Action.{Action}
-use Rattle.plan_types.specs.declared.action.Action.TheVariants.{Forward, Copy, Move}
-use Rattle.plan_types.specs.declared.action.Keep.TheVariants.{Nothing, Store, Tape}
-use Rattle.plan_types.specs.declared.action.Keep.{Keep}
-use Rattle.level_book.specs.declared.book.Slots.{Slots}
-use Rattle.level_book.specs.declared.book.Slots.TheVariants.{Count}
-use Rattle.level_book.specs.Configuration.{Configuration, held_on}
-use Rattle.level_book.specs.Moves.{IsFree, IsHeld}
-use Rattle.level_book.specs.CostFold.{is_write}
-use Rattle.level_book.specs.Rules.{rule, levels_named}
-use Rattle.schedule_rules.specs.Reachability.{IsSound}
+use Rattle.reverse_runner.proofs.Common.{◌≡◌, ℕ, ◌*◌, ◌∙◌, refl, ap, sym, subst, arith, ◌≢◌, inl, List, get_or, Option, Some, None, vec_len, [], length, Vec, IsSome, ◌<◌, ◌≤◌, Contains, ◌-◌, ◌^◌, ◌∷◌, map, add-zero, zero-add, get_or-map, length-map, slice_get-get_or, option_map_or, sha256, Action, Forward, Copy, Move, Dest, Work, Level, Keep, Store, Nothing, Tape, Configuration, held_on, is_write, IsFree, IsHeld, levels_named, rule, Slots, Count, IsSound, MachineState, state_number, image, Images, Ghosts, IsKept, IsFreed, without_pair, pair_at, held, ShelfState, level_of, kept_at, states_below, Holdings, IsDecoded, Acts, IsFetched, Levels, IsAsBefore, Keeps, Releases, IsOnLevel, MayKeep, IsLaidOut, IsKeeping, one_free, IsOther, Calls, one_if, calls_of, Called, by_number, HaveRoom, pair_read, IsDamage}
 use Rattle.schedule_rules.proofs.MovesByRules.{goes}
-use Rattle.sha2.specs.Sha256.{sha256}
-use Rattle.keepers.specs.Claims.{Images}
-use Rattle.keepers.specs.declared.storage.Storage.{Ghosts}
-use Rattle.rv_machine.specs.MachineState.{MachineState}
-use Rattle.rv_machine.specs.States.{state_number}
-use Rattle.unit_undo.specs.UndoTrail.{states_below}
-use Rattle.state_image.specs.Image.{image}
-use Rattle.image_store.specs.Calls.{IsKept, IsFreed, without_pair}
-use Rattle.image_store.specs.Pairs.{pair_at, held}
-use Rattle.image_store.specs.Shelves.{ShelfState, level_of, kept_at}
-use Rattle.reverse_runner.specs.DeskGives.{IsOnLevel, MayKeep}
-use Rattle.reverse_runner.specs.HoldingsOfRun.{IsLaidOut}
-use Rattle.reverse_runner.specs.KeepersSeen.{by_number, HaveRoom, Calls, calls_of, Called, one_if}
 use Rattle.reverse_runner.specs.declared.fault.RunFault.{RunFault}
 use Rattle.reverse_runner.specs.declared.fault.RunFault.TheVariants.{Keeper}
-use Rattle.reverse_runner.specs.ActionEffects.{Levels, Holdings, IsFetched, IsDecoded, Keeps, Releases, IsAsBefore, Acts}
-use Rattle.reverse_runner.specs.SessionOfRun.{pair_read, IsDamage}
-use Rattle.reverse_runner.specs.KeeperCallEffects.{IsOther, IsKeeping, one_free}
 use Rattle.reverse_runner.proofs.AllCalls.{calls_then, called_then, called_same}
 use Rattle.reverse_runner.proofs.RoomLeft.{room_left, is_there, is_new, has_place, held_is_below}
 
@@ -140,10 +108,6 @@ copy_names_target n k j dest is = let P : Dest → Type 0 = λ d. Contains (leve
 pub move_names_copied : (n k : ℕ) (dest : Dest) (j : ℕ) → Contains (levels_named (Copy n k dest)) j → Contains (levels_named (Move n k dest)) j
 move_names_copied n k Work j h = h
 move_names_copied n k (Level i) j h = h
-
--- a number that isn't named is another than one that is
-pub not_named : (names : List ℕ) (k j : ℕ) → Contains names j → (Contains names k → ⊥) → k ≢ j
-not_named names k j named free e = let P : ℕ → Type 0 = λ i. Contains names i in free (subst P (sym e) named)
 
 -- a keeper that failed in keeping is that of the level
 pub keeping_is_on : (level k : ℕ) (fault : RunFault) → IsKeeping level fault → fault ≡ Keeper k → k ≡ level

@@ -1,39 +1,11 @@
 -- Levels are laid out, stand and are alone after every action where they were before it.
-use Rattle.std.proofs.Common.{◌≡◌, ◌≢◌, ℕ, ◌+◌, ◌<◌, true, false, not, cond, ◌||◌, ◌&&◌, List, get_or, set as put, sym, ◌∙◌, ap, subst, arith, Some, None, inl, inr, eq-eqb}
-use Rattle.std.specs.Option.{is_some}
+use Rattle.reverse_runner.proofs.Common.{◌≡◌, ℕ, ◌+◌, ◌∙◌, false, ap, sym, subst, arith, ◌≢◌, inl, inr, List, get_or, set as put, Some, None, ◌<◌, true, cond, not, ◌||◌, ◌&&◌, length-set, cases_eq, get_or-set_same, get_or-set_other, same_Some, is_some, Slots, Count, MachineState, image, Images, tied, not_tied, inserted, not_inserted, removed, not_removed, level_more, level_less, level_alone_more, level_alone_less, got_is, is_within, held_more, held_less, kept_in, without_pair, with_pair, pair_at, ShelfState, level_of, LevelStands, LevelAlone, Kept, IsFetched, Levels, Numbers, AreImages, LevelStandsAt, IsLevelLaidOut}
 use Rattle.std.specs.FinSet as set
 use Rattle.std.specs.FinMap as finmap
-use Rattle.std.specs.Ordering.{nat_cmp, eq_by_cmp}
-use Rattle.std.specs.Cmp.{nat_cmp_total, unsigned_tied}
-use Rattle.std.proofs.lemmas.Bool.{cases_eq, ne_eqb}
-use Rattle.std.proofs.lemmas.List.{get_or-set_same, get_or-set_other}
-use Rattle.std.proofs.lemmas.Option.{same_Some}
-use Rattle.std.proofs.Math.ListN.{length-set}
-use Rattle.level_book.specs.declared.book.Slots.{Slots}
-use Rattle.level_book.specs.declared.book.Slots.TheVariants.{Count}
+use Rattle.std.specs.Cmp.{nat_cmp_total}
 use Rattle.schedule_rules.proofs.BitsLemmas.{len_one_more, len_one_less}
-use Rattle.keepers.specs.Claims.{Images}
-use Rattle.rv_machine.specs.MachineState.{MachineState}
-use Rattle.state_image.specs.Image.{image}
-use Rattle.image_store.specs.declared.shelf.Kept.{Kept}
-use Rattle.image_store.specs.Pairs.{pair_at}
-use Rattle.image_store.specs.Shelves.{ShelfState, level_of}
-use Rattle.image_store.specs.Calls.{with_pair, without_pair, kept_in}
-use Rattle.image_store.specs.StoredImages.{LevelStands, LevelAlone}
-use Rattle.image_store.proofs.SlotAllocation.{held_more, held_less, is_within}
-use Rattle.image_store.proofs.LevelImages.{inserted, not_inserted, removed, not_removed, level_more, level_less, level_alone_more, level_alone_less, got_is}
-use Rattle.reverse_runner.specs.ActionEffects.{Levels, IsFetched}
-use Rattle.reverse_runner.specs.HoldingsOfRun.{Numbers, AreImages, LevelStandsAt, IsLevelLaidOut}
 use Rattle.reverse_runner.proofs.RoomLeft.{has_place, is_new, held_is_below}
 use Rattle.reverse_runner.proofs.LevelFacts.{LevelFact, Gains, Loses}
-
--- equal numbers are tied
-tied : (q n : ℕ) → q ≡ n → eq_by_cmp nat_cmp q n ≡ true
-tied q n e = unsigned_tied q n ∙ eq-eqb q n e
-
--- different numbers are not
-not_tied : (q n : ℕ) → (q ≡ n → ⊥) → eq_by_cmp nat_cmp q n ≡ false
-not_tied q n ne = unsigned_tied q n ∙ ne_eqb q n ne
 
 -- a number that was put is there
 more_same : (s : Numbers) (n q : ℕ) → q ≡ n → set.contains (set.insert s n) q ≡ true

@@ -1,3 +1,4 @@
+pub mod Common
 pub mod LevelPreconditions
 pub mod AllCalls
 pub mod Collision

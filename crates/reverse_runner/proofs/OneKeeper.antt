@@ -1,18 +1,7 @@
 -- The keeper of one level was called: what is seen of the keepers then.
-use Rattle.std.proofs.Common.{◌≡◌, ◌≢◌, ℕ, ◌==◌, ◌<◌, ◌≤◌, true, false, List, length, get_or, set, slice_get, Option, Some, None, IsSome, refl, sym, ◌∙◌, ap, subst, inl, inr, arith, eq-eqb}
-use Rattle.std.specs.Option.{option_map_or}
-use Rattle.std.proofs.Math.ListN.{length-set}
+use Rattle.reverse_runner.proofs.Common.{◌≡◌, ℕ, ◌∙◌, false, refl, ap, sym, subst, arith, ◌≢◌, inl, inr, List, get_or, set, Option, Some, None, length, IsSome, ◌<◌, true, ◌≤◌, slice_get, eq-eqb, ◌==◌, length-set, cases_eq, false≢true, cases_lt, ne_eqb, get_or-set_same, get_or-set_other, slice_get-get_or, slice_get_past, option_map_or, Location, raised, Ghosts, StoreFault, one_put, one_get, fault_on, IsKeeping, one_free, Remain, OthersRemain, one_if, Called, by_number, calls_to}
 use Rattle.std.proofs.Math.Seq.{map-set_same}
-use Rattle.std.proofs.lemmas.Bool.{false≢true, cases_eq, cases_lt, ne_eqb}
-use Rattle.std.proofs.lemmas.List.{get_or-set_same, get_or-set_other}
-use Rattle.std.proofs.lemmas.Option.{slice_get-get_or, slice_get_past}
-use Rattle.keepers.specs.Claims.{Location}
-use Rattle.keepers.specs.declared.storage.Storage.{Ghosts}
-use Rattle.keepers.specs.Counts.{raised}
-use Rattle.image_store.specs.declared.shelf.StoreFault.{StoreFault}
 use Rattle.image_store.specs.declared.shelf.StoreFault.TheVariants as store
-use Rattle.reverse_runner.specs.KeepersSeen.{by_number, calls_to, one_if, Called}
-use Rattle.reverse_runner.specs.KeeperCallEffects.{one_put, one_get, one_free, Remain, OthersRemain, IsKeeping, fault_on}
 use Rattle.reverse_runner.specs.declared.fault.RunFault.TheVariants.{Damaged}
 
 raised_none : (a : ℕ) → a ≡ raised a 0

@@ -1,27 +1,6 @@
 -- What a refused action may have left on the levels, from what its calls did.
-use Rattle.std.proofs.Common.{◌≡◌, ◌≢◌, ◌⊎◌, ℕ, zero, suc, ◌==◌, ◌<◌, Bool, true, false, List, [], ◌∷◌, set as put, Option, Some, None, Result, Ok, Err, OnOk, OnErr, refl, sym, ◌∙◌, ap, subst, inl, inr, arith}
+use Rattle.reverse_runner.proofs.Common.{◌≡◌, ℕ, ◌∙◌, false, refl, ap, sym, subst, arith, ◌≢◌, ◌⊎◌, inl, inr, List, set as put, Option, Some, None, [], Result, Ok, Err, OnOk, OnErr, ◌<◌, true, ◌∷◌, ◌==◌, zero, suc, cases_eq, false≢true, ne_eqb, eqb-true, eqb-false, get_or-set_other, same_Some, none-some, Action, Forward, Copy, Move, Dest, Work, Level, Keep, Store, is_write, Images, Tells, SameButAt, not_inserted, is_within, held_less, IsKept, IsNotKept, IsNotFreed, pair_at, held, IsFreeSlot, ShelfState, level_of, kept_at, Kept, Holdings, Acts, Levels, IsAsBefore, NotReached, Spares, MayLeave, pair_read}
 use Rattle.std.specs.FinMap as finmap
-use Rattle.std.proofs.lemmas.Bool.{false≢true, cases_eq, ne_eqb, eqb-true, eqb-false}
-use Rattle.std.proofs.lemmas.List.{get_or-set_other}
-use Rattle.std.proofs.lemmas.Option.{none-some, same_Some}
-use Rattle.plan_types.specs.declared.action.Dest.{Dest}
-use Rattle.plan_types.specs.declared.action.Dest.TheVariants.{Work, Level}
-use Rattle.plan_types.specs.declared.action.Keep.{Keep}
-use Rattle.plan_types.specs.declared.action.Keep.TheVariants.{Store}
-use Rattle.plan_types.specs.declared.action.Action.{Action}
-use Rattle.plan_types.specs.declared.action.Action.TheVariants.{Forward, Copy, Move}
-use Rattle.level_book.specs.CostFold.{is_write}
-use Rattle.keepers.specs.Claims.{Images, Tells, SameButAt}
-use Rattle.image_store.specs.declared.shelf.Kept.{Kept}
-use Rattle.image_store.specs.Pairs.{pair_at, held, IsFreeSlot}
-use Rattle.image_store.specs.Shelves.{ShelfState, level_of, kept_at}
-use Rattle.image_store.specs.Calls.{IsKept, IsNotKept, IsNotFreed}
-use Rattle.image_store.proofs.SlotAllocation.{is_within, held_less}
-use Rattle.image_store.proofs.LevelImages.{not_inserted}
-use Rattle.reverse_runner.specs.ActionEffects.{Levels, Holdings, IsAsBefore, Acts}
-use Rattle.reverse_runner.specs.KeepersSeen.{is_release}
-use Rattle.reverse_runner.specs.RefusalResidue.{Spares, MayLeave, NotReached}
-use Rattle.reverse_runner.specs.SessionOfRun.{pair_read}
 
 -- ---- a level with room has a slot that no pair has
 
@@ -131,17 +110,14 @@ is_it j k e = sym (eqb-true j k e)
 is_other : (j k : ℕ) → (j == k) ≡ false → k ≢ j
 is_other j k e same = eqb-false j k e (sym same)
 
-not_both : (b : Bool) → b ≡ false → b ≡ true → ⊥
-not_both b is_not is = false≢true (sym is_not ∙ is)
-
 -- ---- what is left of an action that was refused
 
 -- one that writes and releases nothing, where the keepers tell what they told
 pub leaves_as_was : (a : Action) (old : Levels) (told : ℕ → Option Images) → ((k : ℕ) → Spares a k) → ((k : ℕ) → told k ≡ old.told k) → MayLeave a old told
 leaves_as_was a old told none same = record {
   spared = λ k _. same k;
-  put_to = λ k puts. absurd (not_both (is_write k a) (none k).0 puts);
-  released = λ k n kept frees _ _. absurd (not_both (is_release k a) (none k).1 frees);
+  put_to = λ k puts. absurd (false≢true (sym (none k).0 ∙ puts));
+  released = λ k n kept frees _ _. absurd (false≢true (sym (none k).1 ∙ frees));
 }
 
 -- one that puts an image on a level, where it wasn't kept

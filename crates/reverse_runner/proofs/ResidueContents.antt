@@ -1,27 +1,8 @@
 -- Where the levels of a session stood and were alone, their keepers hold the images after an action that was refused, but for
 -- what it may have left.
-use Rattle.std.proofs.Common.{◌≡◌, ◌⊎◌, ℕ, ◌<◌, true, List, length, set as put, Option, Some, None, IsSome, sym, ◌∙◌, subst, inl, inr}
+use Rattle.reverse_runner.proofs.Common.{◌≡◌, ℕ, ◌∙◌, sym, subst, ◌⊎◌, inl, inr, List, set as put, Option, Some, None, length, IsSome, ◌<◌, true, cases_eq, false≢true, Action, Configuration, held_on, is_write, MachineState, Images, SameButAt, removed, not_removed, stands_still, stands_less, alone_less, IsNotKept, IsNotFreed, pair_at, IsFreeSlot, ShelfState, level_of, KeepsAs, IsToldAnd, Alone, Kept, Holdings, Numbers, AreImages, HoldingsStandAt, AreAlone, HoldsJust, is_release, Spares, MayLeave, HoldsBesides, HoldsAllBut, pair_read, unit_states}
 use Rattle.std.specs.FinSet as set
 use Rattle.std.specs.FinMap as finmap
-use Rattle.std.proofs.lemmas.Bool.{cases_eq, false≢true}
-use Rattle.level_book.specs.Configuration.{Configuration, held_on}
-use Rattle.level_book.specs.CostFold.{is_write}
-use Rattle.plan_types.specs.declared.action.Action.{Action}
-use Rattle.keepers.specs.Claims.{Images, SameButAt}
-use Rattle.rv_machine.specs.MachineState.{MachineState}
-use Rattle.image_store.specs.declared.shelf.Kept.{Kept}
-use Rattle.image_store.specs.Pairs.{pair_at, IsFreeSlot}
-use Rattle.image_store.specs.Shelves.{ShelfState, level_of}
-use Rattle.image_store.specs.Calls.{IsNotKept, IsNotFreed}
-use Rattle.image_store.specs.StoredImages.{KeepsAs, IsToldAnd, Alone}
-use Rattle.image_store.proofs.LevelImages.{removed, not_removed, stands_still, stands_less, alone_less}
-use Rattle.reverse_runner.specs.Units.{unit_states}
-use Rattle.reverse_runner.specs.ActionEffects.{Holdings}
-use Rattle.reverse_runner.specs.KeepersSeen.{is_release}
-use Rattle.reverse_runner.specs.HoldingsOfRun.{Numbers, AreImages, HoldingsStandAt, AreAlone}
-use Rattle.reverse_runner.specs.KeeperContents.{HoldsJust}
-use Rattle.reverse_runner.specs.RefusalResidue.{Spares, MayLeave, HoldsBesides, HoldsAllBut}
-use Rattle.reverse_runner.specs.SessionOfRun.{pair_read}
 use Rattle.reverse_runner.proofs.ExactContents.{number_kept, just, holds_just}
 use Rattle.reverse_runner.proofs.LevelsInvariant.{images_less}
 

@@ -1,32 +1,8 @@
 -- What a level that is laid out has a place and room for, and how the levels of a session begin.
-use Rattle.std.proofs.Common.{◌≡◌, ◌≢◌, ℕ, zero, suc, ◌+◌, ◌<◌, ◌≤◌, true, false, cond, List, [], length, get_or, set as put, replicate, Option, Some, None, IsSome, refl, sym, ◌∙◌, ap, subst, arith, inl, inr, true≢false}
-use Rattle.std.specs.Option.{is_some}
-use Rattle.std.specs.Ordering.{nat_cmp}
+use Rattle.reverse_runner.proofs.Common.{◌≡◌, ℕ, ◌+◌, ◌∙◌, false, refl, ap, sym, subst, arith, ◌≢◌, inl, inr, List, get_or, set as put, Option, Some, None, [], length, IsSome, ◌<◌, true, cond, ◌≤◌, true≢false, length-set, mul-zero, cases_lt, get_or-set_other, get_or-map, length-map, get_or_past, length-replicate, is_some, nat_cmp, least, start, held_on, HasRoom, Slots, Count, Unlimited, MachineState, state_number, image, Images, stands_empty, alone_empty, held_more, no_pair, none_held, pair_at, held, ShelfState, level_of, no_pairs, no_pairs_on, LevelStands, LevelAlone, Kept, TapeState, IsLaidOut, Numbers, AreImages, HoldingsStandAt, AreAlone, IsLevelLaidOut, unit_states}
 use Rattle.std.specs.FinSet as set
 use Rattle.std.specs.FinMap as finmap
-use Rattle.std.proofs.Math.ListN.{length-set}
-use Rattle.std.proofs.Math.Nat.{mul-zero}
-use Rattle.std.proofs.lemmas.Bool.{cases_lt}
-use Rattle.std.proofs.lemmas.List.{get_or-set_other, get_or-map, get_or_past, length-map, length-replicate}
 use Rattle.std.proofs.lemmas.List.Sums.{count_by-le-length}
-use Rattle.level_book.specs.declared.book.Slots.{Slots}
-use Rattle.level_book.specs.declared.book.Slots.TheVariants.{Count, Unlimited}
-use Rattle.level_book.specs.BookCosts.{least}
-use Rattle.level_book.specs.Configuration.{start, held_on}
-use Rattle.level_book.specs.Moves.{HasRoom}
-use Rattle.keepers.specs.Claims.{Images}
-use Rattle.rv_machine.specs.MachineState.{MachineState}
-use Rattle.rv_machine.specs.States.{state_number}
-use Rattle.state_image.specs.Image.{image}
-use Rattle.image_store.specs.declared.shelf.Kept.{Kept}
-use Rattle.image_store.specs.Pairs.{pair_at, held}
-use Rattle.image_store.specs.Shelves.{ShelfState, level_of, no_pairs, no_pairs_on}
-use Rattle.image_store.specs.StoredImages.{LevelStands, LevelAlone}
-use Rattle.image_store.proofs.SlotAllocation.{held_more, no_pair}
-use Rattle.image_store.proofs.Levels.{stands_empty, alone_empty}
-use Rattle.reverse_runner.specs.Units.{unit_states}
-use Rattle.reverse_runner.specs.ActionEffects.{TapeState}
-use Rattle.reverse_runner.specs.HoldingsOfRun.{Numbers, AreImages, HoldingsStandAt, AreAlone, IsLevelLaidOut, IsLaidOut}
 
 -- a pair that isn't held
 not_held : (o : Option Kept) → is_some o ≡ false → o ≡ None
@@ -35,9 +11,7 @@ not_held (Some x) e = absurd (true≢false e)
 
 -- there is a place for each state before the last
 pub has_place : (steps : ℕ) (slots : Slots) (numbers : Numbers) (level : ShelfState) (n : ℕ) → IsLevelLaidOut steps slots numbers level → n < steps → n < length level.pairs
-has_place steps slots numbers level n laid before =
-    let places = laid.places in
-    omega (arith, before, places)
+has_place steps slots numbers level n laid before = omega (arith, before, laid.places)
 
 -- the pair of a number that is held is there
 pub is_there : (steps : ℕ) (slots : Slots) (numbers : Numbers) (level : ShelfState) (n : ℕ) → IsLevelLaidOut steps slots numbers level →
@@ -49,19 +23,14 @@ pub is_new : (steps : ℕ) (slots : Slots) (numbers : Numbers) (level : ShelfSta
     set.contains numbers n ≡ false → pair_at level.pairs n ≡ None
 is_new steps slots numbers level n laid new = not_held (pair_at level.pairs n) (laid.pairs n ∙ new)
 
--- past the last place there is no pair
-none_past : (pairs : List (Option Kept)) (n : ℕ) → length pairs ≤ n → is_some (pair_at pairs n) ≡ false
-none_past pairs n past = ap is_some (get_or_past pairs n None past)
-
 -- a number that is held is that of a state before the last
 pub held_is_below : (steps : ℕ) (slots : Slots) (numbers : Numbers) (level : ShelfState) (n : ℕ) → IsLevelLaidOut steps slots numbers level →
     set.contains numbers n ≡ true → n < steps
 held_is_below steps slots numbers level n laid there =
-    let places = laid.places in
     let other : n ≢ steps = λ e. true≢false (sym there ∙ ap (set.contains numbers) e ∙ laid.last) in
     elim (cases_lt n (length level.pairs)) [
-      | inl within ↦ omega (arith, within, places, other)
-      | inr past ↦ absurd (true≢false (sym there ∙ sym (laid.pairs n) ∙ none_past level.pairs n past))
+      | inl within ↦ omega (arith, within, laid.places, other)
+      | inr past ↦ absurd (true≢false (sym there ∙ sym (laid.pairs n) ∙ ap is_some (get_or_past level.pairs n None past)))
     ]
 
 -- where two pairs are missing, there are two places more than pairs
@@ -83,30 +52,21 @@ two_missing pairs m n apart within_m within_n none_m none_n =
 fewer_than_steps : (steps : ℕ) (slots : Slots) (numbers : Numbers) (level : ShelfState) (n : ℕ) → IsLevelLaidOut steps slots numbers level →
     set.contains numbers n ≡ false → n < steps → held level.pairs < steps
 fewer_than_steps steps slots numbers level n laid new before =
-    let places = laid.places in
     let within = has_place steps slots numbers level n laid before in
     let none = is_new steps slots numbers level n laid new in
     let last = is_new steps slots numbers level steps laid laid.last in
-    let two = two_missing level.pairs steps n (omega (arith, before)) (omega (arith, places)) within last none in
-    omega (arith, two, places)
+    let two = two_missing level.pairs steps n (omega (arith, before)) (omega (arith, laid.places)) within last none in
+    omega (arith, two, laid.places)
 
 -- a level with a free slot has room for one more pair
 pub room_left : (steps : ℕ) (slots : Slots) (numbers : Numbers) (level : ShelfState) (n : ℕ) → IsLevelLaidOut steps slots numbers level →
     HasRoom slots numbers → set.contains numbers n ≡ false → n < steps → held level.pairs < level.room
 room_left steps (Count m) numbers level n laid free new before =
     let fewer = fewer_than_steps steps (Count m) numbers level n laid new before in
-    let count = laid.count in
-    let room = laid.room in
-    omega (arith, fewer, count, room, free)
+    omega (arith, fewer, laid.count, laid.room, free)
 room_left steps Unlimited numbers level n laid free new before =
     let fewer = fewer_than_steps steps Unlimited numbers level n laid new before in
-    let room = laid.room in
-    omega (arith, fewer, room)
-
--- among places that hold no pair none is counted
-none_counted : (count : ℕ) → held (replicate count None) ≡ 0
-none_counted zero = refl
-none_counted (suc count) = none_counted count
+    omega (arith, fewer, laid.room)
 
 -- a level with no pairs is laid out for no numbers
 empty_is_laid_out : (steps : ℕ) (slots : Slots) → IsLevelLaidOut steps slots set.empty (no_pairs steps (least slots steps))
@@ -114,7 +74,7 @@ empty_is_laid_out steps slots = record {
   places = length-replicate (steps + 1) None;
   room = refl;
   pairs = λ n. ap is_some (no_pair (steps + 1) n) ∙ sym (set.contains-empty nat_cmp n);
-  count = none_counted (steps + 1) ∙ sym (set.len-empty nat_cmp);
+  count = none_held (steps + 1) ∙ sym (set.len-empty nat_cmp);
   last = set.contains-empty nat_cmp steps;
 }
 
@@ -137,8 +97,7 @@ pub begun_is_laid_out : (steps : ℕ) (slots : List Slots) → IsLaidOut steps s
 begun_is_laid_out steps slots = record {
   levels = levels_of_none steps slots;
   each = λ k within.
-      let long = levels_of_none steps slots in
-      let inside : k < length slots = omega (arith, within, long) in
+      let inside : k < length slots = omega (arith, within, levels_of_none steps slots) in
       let s = get_or slots k (Count 0) in
       subst (λ (x : ShelfState). IsLevelLaidOut steps s (held_on (start steps slots) k) x) (sym (level_with_none steps slots k inside))
       (subst (λ (x : Numbers). IsLevelLaidOut steps s x (no_pairs steps (least s steps))) (sym (nothing_held steps slots k inside)) (empty_is_laid_out steps s));
@@ -163,8 +122,7 @@ begun_stands first journal unit steps slots tape told tells = record {
   work = ap (state_number first journal) (sym (mul-zero unit));
   tape = tt;
   levels = λ k within.
-      let long = levels_of_none steps slots in
-      let inside : k < length slots = omega (arith, within, long) in (
+      let inside : k < length slots = omega (arith, within, levels_of_none steps slots) in (
         finmap.empty,
         (
           no_images_are (unit_states first journal unit) (held_on (start steps slots) k) (nothing_held steps slots k inside),
@@ -177,6 +135,5 @@ begun_stands first journal unit steps slots tape told tells = record {
 pub begun_is_alone : (steps : ℕ) (slots : List Slots) (told : ℕ → Option Images) → ((k : ℕ) → k < length slots → told k ≡ Some finmap.empty) →
     AreAlone (record { store = no_pairs_on slots steps; told = told })
 begun_is_alone steps slots told empty k within =
-    let long = levels_of_none steps slots in
-    let inside : k < length slots = omega (arith, within, long) in
+    let inside : k < length slots = omega (arith, within, levels_of_none steps slots) in
     subst (LevelAlone (level_of (no_pairs_on slots steps) k)) (sym (empty k inside)) (alone_empty slots steps k)

@@ -1,23 +1,8 @@
 -- Images stay short, and keepers with a room never want memory.
-use Rattle.std.proofs.Common.{◌≡◌, ◌≢◌, ℕ, ◌+◌, ◌*◌, ◌<◌, ◌≤◌, List, [], ◌∷◌, ◌⊎◌, zero, suc, length, replicate, slice_set, Option, None, Some, refl, sym, ◌∙◌, ap, subst, inl, inr, arith}
-use Rattle.std.proofs.lemmas.Bool.{cases_eq, cases_lt}
-use Rattle.std.proofs.lemmas.List.{get_or-set_same, get_or-set_other}
-use Rattle.level_book.specs.declared.book.Slots.{Slots}
-use Rattle.rv_machine.specs.MachineState.{MachineState}
+use Rattle.reverse_runner.proofs.Common.{◌≡◌, ℕ, ◌+◌, ◌*◌, ◌∙◌, refl, ap, sym, subst, arith, ◌≢◌, ◌⊎◌, inl, inr, List, Option, Some, None, [], length, ◌<◌, ◌≤◌, ◌∷◌, zero, suc, slice_set, cases_eq, cases_lt, get_or-set_same, get_or-set_other, same_Some, none-some, Slots, MachineState, none_at, kept_in, without_pair, with_pair, pair_at, ShelfState, level_of, kept_at, no_pairs_on, Kept, StoreFault, fault_on, image_room, IsRoomy, AreRoomy, SameRooms, AreShort, SamePages}
 use Rattle.state_image.specs.declared.layout.TheConstants.{PAGES, PAGE_FIELD}
-use Rattle.image_store.specs.declared.shelf.Kept.{Kept}
-use Rattle.image_store.specs.declared.shelf.StoreFault.{StoreFault}
 use Rattle.image_store.specs.declared.shelf.StoreFault.TheVariants as store
-use Rattle.image_store.specs.Calls.{with_pair, without_pair, kept_in}
-use Rattle.image_store.specs.Pairs.{pair_at}
-use Rattle.image_store.specs.Shelves.{ShelfState, level_of, kept_at, no_pairs_on}
 use Rattle.reverse_runner.specs.declared.fault.RunFault.TheVariants.{Memory}
-use Rattle.reverse_runner.specs.Rooms.{image_room, IsRoomy, AreRoomy, SameRooms, AreShort}
-use Rattle.reverse_runner.specs.SessionState.{SamePages}
-use Rattle.reverse_runner.specs.KeeperCallEffects.{fault_on}
-
-some_is : {X : Type 0} (x y : X) → Some x ≡ Some y → x ≡ y
-some_is x y e = cc
 
 -- the room that there is
 pub roomy_is : (bytes : ℕ) (o : Option ℕ) → IsRoomy bytes o → (room : ℕ) × (o ≡ Some room) × (bytes ≤ room)
@@ -64,7 +49,7 @@ short_kept most level n slot image old new fits is others short k m kept e = eli
       let there : pair_at (slice_set (level_of old level).pairs n (Some (kept_in slot image))) m ≡ Some kept =
       ap (λ (s : ShelfState). pair_at s.pairs m) (sym is) ∙ ap (λ i. kept_at new i m) (sym same) ∙ e in
       elim (pair_set (level_of old level).pairs n m (Some (kept_in slot image)) kept there) [
-        | inl it ↦ subst (λ (x : Kept). x.length ≤ most) (some_is (kept_in slot image) kept it.1) fits
+        | inl it ↦ subst (λ (x : Kept). x.length ≤ most) (same_Some (kept_in slot image) kept it.1) fits
         | inr it ↦ short level m kept it
       ]
   | inr apart ↦ short k m kept (ap (λ (s : ShelfState). pair_at s.pairs m) (sym (others k apart)) ∙ e)
@@ -77,34 +62,18 @@ short_released most level n old new is others short k m kept e = elim (cases_eq 
       let there : pair_at (slice_set (level_of old level).pairs n None) m ≡ Some kept =
       ap (λ (s : ShelfState). pair_at s.pairs m) (sym is) ∙ ap (λ i. kept_at new i m) (sym same) ∙ e in
       elim (pair_set (level_of old level).pairs n m None kept there) [
-        | inl it ↦ absurd (no_some kept it.1)
+        | inl it ↦ absurd (none-some kept it.1)
         | inr it ↦ short level m kept it
       ]
   | inr apart ↦ short k m kept (ap (λ (s : ShelfState). pair_at s.pairs m) (sym (others k apart)) ∙ e)
 ]
-  where
-    no_some : (kept : Kept) → None ≡ Some kept → ⊥
-    no_some kept e = absurd cc
 
 pub short_same : (most : ℕ) (old new : List ShelfState) → new ≡ old → AreShort most old → AreShort most new
 short_same most old new e short = subst (AreShort most) (sym e) short
 
 -- at the start no image is kept
-none_there : (n m : ℕ) → pair_at (replicate n None) m ≡ None
-none_there zero m = refl
-none_there (suc n) zero = refl
-none_there (suc n) (suc m) = none_there n m
-
-pub none_on : (slots : List Slots) (steps k n : ℕ) → kept_at (no_pairs_on slots steps) k n ≡ None
-none_on [] steps k n = refl
-none_on (s ∷ slots) steps zero n = none_there (steps + 1) n
-none_on (s ∷ slots) steps (suc k) n = none_on slots steps k n
-
 pub begun_short : (most : ℕ) (slots : List Slots) (steps : ℕ) → AreShort most (no_pairs_on slots steps)
-begun_short most slots steps k n kept e = absurd (none_some kept (sym (none_on slots steps k n) ∙ e))
-  where
-    none_some : (kept : Kept) → None ≡ Some kept → ⊥
-    none_some kept e = absurd cc
+begun_short most slots steps k n kept e = absurd (none-some kept (sym (none_at slots steps k n) ∙ e))
 
 -- keepers that keep their rooms have room still, while the states map the same pages
 pub still_roomy : (s t : MachineState) (slots slots' : List Slots) (rooms rooms' : ℕ → Option ℕ) → SamePages t s → slots' ≡ slots → SameRooms rooms rooms' →

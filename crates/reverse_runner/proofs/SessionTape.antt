@@ -1,20 +1,6 @@
 -- The tape of a session, as its workspace holds it, and how its states are handed out.
-use Rattle.std.proofs.Common.{◌≡◌, ℕ, zero, suc, ◌-◌, ◌*◌, inl, inr, List, [], ◌∷◌, ◌++◌, length, map, refl, sym, ap, subst, ◌∙◌, arith, Option, MatchOption}
-use Rattle.plan_types.specs.declared.action.Keep.TheVariants.{Tape}
-use Rattle.plan_types.specs.declared.action.Action.TheVariants.{Forward}
-use Rattle.level_book.specs.declared.book.Slots.{Slots}
-use Rattle.level_book.specs.Configuration.{Configuration}
-use Rattle.level_book.specs.Moves.{Goes}
-use Rattle.rv_machine.specs.States.{state_number}
-use Rattle.rv_machine.proofs.Runs.{state_number-add}
-use Rattle.unit_undo.specs.UndoState.{UndoState}
-use Rattle.unit_undo.proofs.UndoTrail.{one_each, length-states_below}
-use Rattle.rv_machine.specs.MachineState.{MachineState}
-use Rattle.unit_undo.specs.UndoTrail.{LeadsBack, states_below, IsMadeFor}
+use Rattle.reverse_runner.proofs.Common.{◌≡◌, ℕ, ◌*◌, ◌∙◌, refl, ap, sym, subst, arith, inl, inr, List, Option, [], length, ◌-◌, ◌∷◌, map, zero, suc, ◌++◌, MatchOption, Forward, Tape, Configuration, Goes, Slots, state_number-add, MachineState, state_number, one_each, length-states_below, UndoState, states_below, LeadsBack, IsMadeFor, numbers_from, GetsAll, MissesOne, HasUnits}
 use Rattle.reverse_runner.specs.declared.workspace.Workspace.{Workspace}
-use Rattle.reverse_runner.specs.Workspaces.{HasUnits}
-use Rattle.reverse_runner.specs.StateOrder.{numbers_from}
-use Rattle.reverse_runner.specs.VisitorCalls.{GetsAll, MissesOne}
 use Rattle.reverse_runner.proofs.StatesInvariant.{times_one}
 
 -- one state more was got

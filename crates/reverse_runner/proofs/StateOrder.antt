@@ -1,17 +1,6 @@
 -- A list that leads to an end hands out the numbers that are left, each once, downward.
-use Rattle.std.proofs.Common.{◌≡◌, ℕ, zero, suc, ◌+◌, ◌*◌, add-zero, add-suc, arith, true, false, cond, List, [], ◌∷◌, ◌++◌, refl, sym, ◌∙◌, ap, true≢false}
-use Rattle.std.proofs.Common.{inl, inr}
-use Rattle.std.proofs.Math.Nat.{mul-zero}
-use Rattle.std.proofs.lemmas.Bool.{cases_Bool}
-use Rattle.plan_types.specs.declared.action.Keep.TheVariants.{Nothing, Store, Tape}
-use Rattle.plan_types.specs.declared.action.Dest.TheVariants.{Work, Level}
-use Rattle.plan_types.specs.declared.action.Action.{Action}
-use Rattle.plan_types.specs.declared.action.Action.TheVariants.{Forward, Reverse, Copy, Move, EndForward, EndReverse}
-use Rattle.level_book.specs.declared.book.Slots.{Slots}
-use Rattle.level_book.specs.Configuration.{Configuration, start}
-use Rattle.level_book.specs.Moves.{Goes}
+use Rattle.reverse_runner.proofs.Common.{◌≡◌, ℕ, ◌+◌, ◌*◌, ◌∙◌, false, refl, ap, sym, arith, inl, inr, List, [], true, cond, ◌∷◌, add-zero, zero, suc, true≢false, ◌++◌, add-suc, mul-zero, cases_Bool, Action, Forward, Copy, Move, Reverse, EndForward, EndReverse, Work, Level, Store, Nothing, Tape, Configuration, start, Goes, Slots, numbers_from, handed_by, handed, countdown}
 use Rattle.level_book.specs.Valid.{Leads, Valid}
-use Rattle.reverse_runner.specs.StateOrder.{numbers_from, handed_by, handed, countdown}
 
 -- the numbers below n, downward
 abbrev below : ℕ → List ℕ

@@ -1,14 +1,5 @@
 -- The states of a session follow its configuration through the steps that are taken.
-use Rattle.std.proofs.Common.{◌≡◌, ℕ, ◌+◌, ◌-◌, ◌*◌, ◌<◌, List, sym, ◌∙◌, ap, arith, Option, MatchOption}
-use Rattle.level_book.specs.Configuration.{Configuration}
-use Rattle.level_book.specs.Moves.{MayAdvance}
-use Rattle.rv_machine.specs.MachineState.{MachineState}
-use Rattle.rv_machine.specs.States.{state_number}
-use Rattle.rv_machine.proofs.Runs.{state_number-add}
-use Rattle.unit_undo.specs.UndoTrail.{states_below}
-use Rattle.reverse_runner.specs.Units.{unit_states}
-use Rattle.reverse_runner.specs.ActionEffects.{TapeState}
-use Rattle.reverse_runner.specs.HoldingsOfRun.{IsUnit}
+use Rattle.reverse_runner.proofs.Common.{◌≡◌, ℕ, ◌+◌, ◌*◌, ◌∙◌, ap, sym, arith, List, Option, ◌<◌, ◌-◌, MatchOption, Configuration, MayAdvance, state_number-add, MachineState, state_number, states_below, TapeState, IsUnit, unit_states}
 
 -- what is on the tape is the unit of the run that it is named by
 abbrev pub TapeIs : MachineState → List (List ℕ) → ℕ → Option ℕ → TapeState → Type 0

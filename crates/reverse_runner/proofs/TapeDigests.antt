@@ -1,16 +1,7 @@
 -- Digests that are known of states, and of those on a tape.
-use Rattle.std.proofs.Common.{◌≡◌, ℕ, zero, suc, ◌<◌, List, [], ◌∷◌, ◌++◌, length, reverse, slice_get, Option, None, Some, IfSome, refl, sym, ap, subst, ◌∙◌, arith}
+use Rattle.reverse_runner.proofs.Common.{◌≡◌, ℕ, ◌∙◌, refl, ap, sym, subst, arith, List, Option, Some, None, [], length, ◌<◌, slice_get, ◌∷◌, zero, suc, ◌++◌, reverse, IfSome, length-reverse, same_Some, none-some, sha256, MachineState, state_number, image, length-states_below, gone_states, length-led_back, UndoState, states_below, led_back, states_of, AreDigests}
 use Rattle.std.proofs.lemmas.Grind.{reverse_onto}
-use Rattle.std.proofs.lemmas.List.{length-reverse}
-use Rattle.sha2.specs.Sha256.{sha256}
-use Rattle.rv_machine.specs.MachineState.{MachineState}
-use Rattle.rv_machine.specs.States.{state_number}
-use Rattle.state_image.specs.Image.{image}
 use Rattle.unit_undo.specs.Entry.{Entry, undone}
-use Rattle.unit_undo.specs.UndoState.{UndoState}
-use Rattle.unit_undo.specs.UndoTrail.{led_back, states_below}
-use Rattle.unit_undo.proofs.UndoTrail.{gone_states, length-led_back, length-states_below}
-use Rattle.unit_digests.specs.Digests.{states_of, AreDigests}
 use Rattle.unit_digests.proofs.DigestWalks.{its_number}
 use Rattle.reverse_runner.specs.KnownDigests.{IsDigestOf}
 
@@ -35,20 +26,14 @@ known_here known (Some digest) number u v e s t count is at h found =
     subst (λ (ts : List MachineState). AreDigests known (reverse ts)) (gone_states u v e s t is at) h (length v.entries) t digest
     (its_number (t ∷ led_back v.entries t) [] t (led_back v.entries t) (length v.entries) refl (length-led_back v.entries t)) (ap (slice_get known) (sym count) ∙ found)
 
-some_is : {X : Type 0} {x y : X} → Some x ≡ Some y → x ≡ y
-some_is e = cc
-
-none_some : {X : Type 0} {x : X} → None ≡ Some x → ⊥
-none_some e = cc
-
 get_first : {X : Type 0} (xs ys : List X) → 0 < length xs → slice_get (xs ++ ys) 0 ≡ slice_get xs 0
 get_first [] ys some = absurd (omega (arith, some))
 get_first (x ∷ xs) ys some = refl
 
 -- the first of the states of a run, where there is one
 first_of_run : (first : MachineState) (journal : List (List ℕ)) (n : ℕ) (s : MachineState) → slice_get (reverse (states_below first journal n)) 0 ≡ Some s → s ≡ first
-first_of_run first journal zero s is = absurd (none_some is)
-first_of_run first journal (suc zero) s is = sym (some_is is)
+first_of_run first journal zero s is = absurd (none-some _ is)
+first_of_run first journal (suc zero) s is = sym (same_Some _ _ is)
 first_of_run first journal (suc (suc n)) s is =
     let before = states_below first journal (suc n) in
     let size : length (reverse before) ≡ suc n = length-reverse before ∙ length-states_below first journal (suc n) in
@@ -58,6 +43,6 @@ first_of_run first journal (suc (suc n)) s is =
 -- the digest of the state before the steps of a unit is that of the first state on its tape
 pub known_on_tape : (known : Option (List ℕ)) (first : MachineState) (journal : List (List ℕ)) (n : ℕ) (states : List MachineState) → states ≡ states_below first journal n → IsDigestOf known first → AreDigests (known ∷ []) (reverse states)
 known_on_tape (Some digest) first journal n states same h zero s other there found =
-    sym (some_is (some_is found)) ∙ h ∙ ap (λ (t : MachineState). sha256 (image t)) (sym (first_of_run first journal n s (ap (λ ts. slice_get (reverse ts) 0) (sym same) ∙ there)))
-known_on_tape None first journal n states same h zero s other there found = absurd (none_some (some_is found))
-known_on_tape known first journal n states same h (suc k) s other there found = absurd (none_some found)
+    sym (same_Some _ _ (same_Some _ _ found)) ∙ h ∙ ap (λ (t : MachineState). sha256 (image t)) (sym (first_of_run first journal n s (ap (λ ts. slice_get (reverse ts) 0) (sym same) ∙ there)))
+known_on_tape None first journal n states same h zero s other there found = absurd (none-some _ (same_Some _ _ found))
+known_on_tape known first journal n states same h (suc k) s other there found = absurd (none-some _ found)

@@ -1,7 +1,5 @@
 -- What a visitor that gets what an action hands out keeps.
-use Rattle.std.proofs.Common.{ℕ, List, [], ◌∷◌, sym, subst}
-use Rattle.rv_machine.specs.MachineState.{MachineState}
-use Rattle.reverse_runner.specs.VisitorCalls.{GetsAll}
+use Rattle.reverse_runner.proofs.Common.{ℕ, sym, subst, List, [], ◌∷◌, MachineState, GetsAll}
 
 -- what each call keeps, what stays where there is none, and what two calls keep one after the other, all calls keep
 pub gets_keeps : {V : Type 0} (got : V → ℕ → MachineState → List (List ℕ) → V → Type 0) (R : V → V → Type 0) →

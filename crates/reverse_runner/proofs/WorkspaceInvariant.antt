@@ -1,14 +1,9 @@
 -- Workspaces that stay in order while their desk is worked on.
-use Rattle.std.proofs.Common.{◌≡◌, ◌≤◌, ℕ, length, ap, sym, ◌∙◌, arith}
+use Rattle.reverse_runner.proofs.Common.{◌≡◌, ℕ, ◌∙◌, ap, sym, arith, length, ◌≤◌, vec_capacity, page_numbers, MachineState, SamePages, IsInOrder}
 use Rattle.std.specs.Global.{Vec}
-use Rattle.std.specs.Vec.{vec_capacity}
-use Rattle.rv_machine.specs.MachineState.{MachineState}
-use Rattle.rv_pages.specs.Memory.{page_numbers}
 use Rattle.reverse_runner.specs.declared.desk.Desk.{Desk}
 use Rattle.reverse_runner.specs.declared.workspace.Workspace.{Workspace}
 use Rattle.reverse_runner.specs.DeskFields.{Fits}
-use Rattle.reverse_runner.specs.SessionState.{SamePages}
-use Rattle.reverse_runner.specs.Workspaces.{IsInOrder}
 
 -- the desk of a workspace that is in order
 pub desk_fits : (w : Workspace) → IsInOrder w → Fits w.desk

@@ -2,10 +2,10 @@
 ghost use Rattle.std.specs.Prelude.{◌≡◌, ◌↔◌, ℕ, ◌+◌, ◌≤◌, ◌∷◌, length, slice_get, IfSome, None, Some, Err, OnOk, OnErr};
 ghost use Rattle.rv_pages.specs.Prelude.{page_numbers};
 ghost use Rattle.rv_machine.specs.Prelude.{state_number, CanNote, AreNoted};
+ghost use Rattle.sha2.specs.Sha256.{sha256};
 ghost use Rattle.state_image.specs.Prelude.{image, first_wrong, first_unmapped, line};
 ghost use Rattle.unit_undo.specs.Prelude.{Entry, undone, CanGoBack};
 ghost use Rattle.unit_digests.specs.Prelude.{states_of, AreDigests};
-ghost use Rattle.sha2.specs.Sha256.{sha256};
 ghost use Rattle.reverse_runner.specs.Prelude.{IsDecoded, IsNoImage};
 
 use input_journal::Journal;
@@ -22,20 +22,6 @@ use unit_undo::Undo;
 pub struct KnownState {
     state: State,
     digest: Option<[u8; 32]>,
-}
-
-impl Model for KnownState {
-    ghost use Rattle.rv_machine.specs.MachineState.{MachineState};
-    ghost use Rattle.rv_machine.specs.StateCode.{state_code};
-    ghost use Rattle.reverse_runner.specs.KnownDigests.{IsDigestOf};
-
-    ghost Value = { MachineState };
-
-    ghost coded = { state_code };
-
-    ghost view = { λ s. s.state };
-
-    ghost invariant = { λ s. IsDigestOf s.digest s.state };
 }
 
 impl KnownState {
@@ -152,6 +138,20 @@ impl KnownState {
             Err(fault) => Err(fault),
         }
     }
+}
+
+impl Model for KnownState {
+    ghost use Rattle.rv_machine.specs.MachineState.{MachineState};
+    ghost use Rattle.rv_machine.specs.StateCode.{state_code};
+    ghost use Rattle.reverse_runner.specs.KnownDigests.{IsDigestOf};
+
+    ghost Value = { MachineState };
+
+    ghost coded = { state_code };
+
+    ghost view = { λ s. s.state };
+
+    ghost invariant = { λ s. IsDigestOf s.digest s.state };
 }
 
 // The digest of the state with this number, where it is known.

@@ -7,6 +7,8 @@ ghost use Rattle.level_book.specs.Prelude.{slots_of, rule, levels_named};
 ghost use Rattle.unit_digests.specs.Prelude.{HasPages};
 ghost use Rattle.keepers.specs.Prelude.{Images};
 ghost use Rattle.reverse_runner.specs.Prelude.{ActionEnds, HasReason, IsSafe, Stays, VisitorAfter, KeepersAre, told_by, calls_to, HaveRoom, slot_counts, AreAlone, handed_by, states_out, HandsOut, rooms_by, levels_of, holdings_of, begun, SessionAfter, StandsAt};
+ghost use Rattle.reverse_runner.specs.SessionState.{SessionState, session_code};
+ghost use Rattle.reverse_runner.specs.SessionFields.{session_state, IsSession};
 
 use crate::acting::act;
 use crate::fault::RunFault;
@@ -34,20 +36,6 @@ pub struct Session {
     journal: Journal,
     done: u64,
     ended: bool,
-}
-
-impl Model for Session {
-    ghost use Rattle.reverse_runner.specs.SessionState.{SessionState, session_code};
-
-    ghost Value = { SessionState };
-
-    ghost coded = { session_code };
-
-    ghost use Rattle.reverse_runner.specs.SessionFields.{session_state, IsSession};
-
-    ghost view = { session_state };
-
-    ghost invariant = { IsSession };
 }
 
 impl Session {
@@ -176,4 +164,14 @@ impl Session {
         }
         outcome
     }
+}
+
+impl Model for Session {
+    ghost Value = { SessionState };
+
+    ghost coded = { session_code };
+
+    ghost view = { session_state };
+
+    ghost invariant = { IsSession };
 }

@@ -1,5 +1,8 @@
 // Why there is no list.
+ghost use Rattle.std.specs.Prelude.{◌≡◌};
+ghost use Rattle.revolve_gen.specs.declared.fault.GenFault.TheVariants.{Memory};
 
+use std::alloc::{AllocError, AllocFailed};
 use thiserror::Error;
 
 /// Why a generator has no list.
@@ -12,4 +15,23 @@ pub enum GenFault {
     /// There was no memory.
     #[error("out of memory")]
     Memory,
+}
+
+/// What a generator gives.
+pub type Planned<T> = Result<T, GenFault>;
+
+impl From<AllocError> for GenFault {
+    ghost from_gives = { λ _ e. e ≡ Memory };
+
+    fn from(_e: AllocError) -> GenFault {
+        GenFault::Memory
+    }
+}
+
+impl<T: Drop> From<AllocFailed<T>> for GenFault {
+    ghost from_gives = { λ _ e. e ≡ Memory };
+
+    fn from(_e: AllocFailed<T>) -> GenFault {
+        GenFault::Memory
+    }
 }

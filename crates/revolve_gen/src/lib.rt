@@ -21,7 +21,7 @@ mod stack;
 mod stream;
 mod stretch;
 
-pub use crate::fault::GenFault;
+pub use crate::fault::{GenFault, Planned};
 pub use crate::part::StretchStream;
 pub use crate::places::Places;
 pub use crate::stack::{StackStep, on_level};

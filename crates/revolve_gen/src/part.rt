@@ -4,8 +4,9 @@ ghost use Rattle.plan_types.specs.declared.limits.TheConstants.{MOST_SLOTS, MOST
 ghost use Rattle.level_book.specs.declared.book.Slots.TheVariants.{Unlimited};
 ghost use Rattle.level_book.specs.Prelude.{slots_of};
 ghost use Rattle.revolve_gen.specs.Places.{level_at};
-ghost use Rattle.revolve_gen.specs.Part.{stretch};
+ghost use Rattle.revolve_gen.specs.Part.{stretch, Coming};
 ghost use Rattle.revolve_gen.specs.Plans.{HasPlan};
+ghost use Rattle.revolve_gen.specs.Remainder.{owed, IsOwing};
 
 use crate::phases::{first_phase, next_action};
 use crate::places::Places;
@@ -22,19 +23,6 @@ pub struct StretchStream {
     room: u32,
     stack: Vec<Stretch>,
     phase: Phase,
-}
-
-impl Model for StretchStream {
-    ghost use Rattle.std.specs.Prelude.{◌≤◌, vec_capacity};
-    ghost use Rattle.revolve_gen.specs.Places.{level_at};
-    ghost use Rattle.revolve_gen.specs.Part.{Coming};
-    ghost use Rattle.revolve_gen.specs.Remainder.{owed, IsOwing};
-
-    ghost Value = { Coming };
-
-    ghost view = { λ s. record { levels = s.places; slots = s.room; actions = owed (level_at s.places) s.room s.phase s.stack.items } };
-
-    ghost invariant = { λ s. IsOwing s.room s.phase s.stack.items × (s.room ≤ vec_capacity s.stack) };
 }
 
 impl StretchStream {
@@ -88,4 +76,12 @@ impl StretchStream {
         self.phase = phase;
         Some(action)
     }
+}
+
+impl Model for StretchStream {
+    ghost Value = { Coming };
+
+    ghost view = { λ s. record { levels = s.places; slots = s.room; actions = owed (level_at s.places) s.room s.phase s.stack.items } };
+
+    ghost invariant = { λ s. IsOwing s.room s.phase s.stack.items × (s.room ≤ vec_capacity s.stack) };
 }

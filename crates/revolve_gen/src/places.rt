@@ -1,7 +1,8 @@
 // The levels of a book's slots, in their order.
-ghost use Rattle.std.specs.Prelude.{◌≡◌, [], ◌∷◌};
+ghost use Rattle.std.specs.Prelude.{◌≡◌, [], ◌∷◌, ◌≤◌, List, length, take};
 ghost use Rattle.level_book.specs.declared.book.Slots.TheVariants.{Unlimited};
 ghost use Rattle.level_book.specs.Prelude.{slots_of};
+ghost use Rattle.level_book.specs.declared.book.Slots.{Slots};
 ghost use Rattle.revolve_gen.specs.Places.{level_at};
 
 use level_book::{Book, Slots};
@@ -12,17 +13,6 @@ use std::marker::Model;
 pub struct Places {
     slots: [Slots; 4],
     count: u8,
-}
-
-impl Model for Places {
-    ghost use Rattle.std.specs.Prelude.{◌≡◌, ◌≤◌, List, length, take};
-    ghost use Rattle.level_book.specs.declared.book.Slots.{Slots};
-
-    ghost Value = { List Slots };
-
-    ghost view = { λ a. take a.count a.slots };
-
-    ghost invariant = { λ a. (a.count ≤ 4) × (length a.slots ≡ 4) };
 }
 
 impl Places {
@@ -68,4 +58,12 @@ impl Places {
         }
         k
     }
+}
+
+impl Model for Places {
+    ghost Value = { List Slots };
+
+    ghost view = { λ a. take a.count a.slots };
+
+    ghost invariant = { λ a. (a.count ≤ 4) × (length a.slots ≡ 4) };
 }

@@ -1,11 +1,13 @@
 // The written list, one action at a time.
-ghost use Rattle.std.specs.Prelude.{◌≡◌, ◌≤◌, [], ◌∷◌, MatchOption, IfOk, IfErr, OnOk, vec_len, vec_capacity};
+ghost use Rattle.std.specs.Prelude.{◌≡◌, ◌≤◌, [], ◌∷◌, MatchOption, IfOk, IfErr, OnOk, vec_len, vec_capacity, List, ◌++◌, cond};
 ghost use Rattle.plan_types.specs.declared.limits.TheConstants.{MOST_STEPS};
+ghost use Rattle.plan_types.specs.declared.action.Action.{Action};
+ghost use Rattle.plan_types.specs.declared.action.Action.TheVariants.{EndReverse};
 ghost use Rattle.level_book.specs.Prelude.{total_room};
 ghost use Rattle.revolve_gen.specs.RevolveList.{revolve_list};
 ghost use Rattle.revolve_gen.specs.Plans.{HasPlan, IsFault};
 
-use crate::fault::GenFault;
+use crate::fault::{GenFault, Planned};
 use crate::part::StretchStream;
 use crate::stretch::Stretch;
 use level_book::Book;
@@ -19,16 +21,6 @@ use std::marker::Model;
 pub struct Revolve {
     stretch: StretchStream,
     ended: bool,
-}
-
-impl Model for Revolve {
-    ghost use Rattle.std.specs.Prelude.{List, [], ◌∷◌, ◌++◌, cond};
-    ghost use Rattle.plan_types.specs.declared.action.Action.{Action};
-    ghost use Rattle.plan_types.specs.declared.action.Action.TheVariants.{EndReverse};
-
-    ghost Value = { List Action };
-
-    ghost view = { λ r. r.stretch.actions ++ cond r.ended [] (EndReverse ∷ []) };
 }
 
 impl Revolve {
@@ -50,7 +42,7 @@ impl Revolve {
     }
 
     /// The list for so many steps. Its stack has room for an entry for each slot.
-    pub fn new(alloc: Global, steps: u32, book: &Book) -> Result<Revolve, GenFault>
+    pub fn new(alloc: Global, steps: u32, book: &Book) -> Planned<Revolve>
         requires { steps ≤ MOST_STEPS }
         ensures list { IfOk result (λ r. r ≡ revolve_list steps book.now) }
         ensures plan { OnOk result (HasPlan steps (total_room book.now steps)) }
@@ -60,9 +52,7 @@ impl Revolve {
         if steps >= 2 && slots == 0 {
             return Err(GenFault::NoPlan(1));
         }
-        let Ok(room) = Vec::with_capacity(alloc, slots as usize) else {
-            return Err(GenFault::Memory);
-        };
+        let room = Vec::with_capacity(alloc, slots as usize)?;
         Ok(Revolve::over(steps, book, room))
     }
 
@@ -82,8 +72,14 @@ impl Revolve {
     }
 }
 
+impl Model for Revolve {
+    ghost Value = { List Action };
+
+    ghost view = { λ r. r.stretch.actions ++ cond r.ended [] (EndReverse ∷ []) };
+}
+
 /// The whole list.
-pub fn revolve_list(alloc: Global, steps: u32, book: &Book) -> Result<Vec<Action>, GenFault>
+pub fn revolve_list(alloc: Global, steps: u32, book: &Book) -> Planned<Vec<Action>>
     requires { steps ≤ MOST_STEPS }
     ensures list { IfOk result (λ list. list.items ≡ revolve_list steps book.now) }
     ensures plan { OnOk result (HasPlan steps (total_room book.now steps)) }
@@ -91,13 +87,9 @@ pub fn revolve_list(alloc: Global, steps: u32, book: &Book) -> Result<Vec<Action
 {
     let mut stream = Revolve::new(alloc, steps, book)?;
     // Four actions a step, and two for no steps.
-    let Ok(mut list) = Vec::with_capacity(alloc, (4 * steps as usize).max(2)) else {
-        return Err(GenFault::Memory);
-    };
+    let mut list = Vec::with_capacity(alloc, (4 * steps as usize).max(2))?;
     while let Some(action) = stream.next() {
-        if list.push(action).is_err() {
-            return Err(GenFault::Memory);
-        }
+        list.push(action)?;
     }
     Ok(list)
 }

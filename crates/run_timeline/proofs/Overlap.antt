@@ -6,7 +6,7 @@ use Rattle.std.proofs.Common.{List, [], ◌∷◌, length, Option, None, Some, c
 use Rattle.std.proofs.lemmas.Bool.{lt-ltb, le-ltb}
 use Rattle.rv_pages.specs.Memory.{wrapped}
 use Rattle.rv_machine.specs.StateChanges.{addresses}
-use Rattle.run_timeline.specs.declared.stops.Range.{Range}
+use Rattle.run_timeline.specs.declared.ranges.Range.{Range}
 use Rattle.run_timeline.specs.Ranges.{is_in, writes_in}
 
 or_true : (b : Bool) → (b || true) ≡ true

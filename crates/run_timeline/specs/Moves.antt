@@ -7,7 +7,7 @@ use Rattle.rv_machine.specs.States.{state_number}
 use Rattle.rv_machine.specs.StepTable.{is_running, written}
 use Rattle.run_timeline.specs.declared.stops.Hit.{Hit}
 use Rattle.run_timeline.specs.declared.stops.Hit.TheVariants.{Break, Watch}
-use Rattle.run_timeline.specs.declared.stops.Range.{Range}
+use Rattle.run_timeline.specs.declared.ranges.Range.{Range}
 use Rattle.run_timeline.specs.declared.stops.Step.{Step}
 use Rattle.run_timeline.specs.declared.stops.Step.TheVariants.{Went, Watched, End}
 use Rattle.run_timeline.specs.Ranges.{writes_in}

@@ -9,9 +9,11 @@ mod looking;
 mod mark;
 mod marks;
 mod moving;
+mod ranges;
 mod stops;
 mod timeline;
 mod walk;
 
-pub use crate::stops::{Hit, Part, Range, Step, Stops};
+pub use crate::ranges::Range;
+pub use crate::stops::{Hit, Part, Step, Stops};
 pub use crate::timeline::{MARK_PAGE_BYTES, MARK_REST_BYTES, Timeline};

@@ -6,7 +6,8 @@ ghost use Rattle.rv_machine.specs.Prelude.{IsMachineState, outputs};
 ghost use Rattle.run_timeline.specs.declared.stops.Step.TheVariants.{Went};
 ghost use Rattle.run_timeline.specs.Moves.{state as state_of, IsPlace, is_end as is_end_of, EndsForward, EndsBackward, CameOn, CameBack, step_ahead, step_behind, steps_of, watched as watched_of};
 ghost use Rattle.run_timeline.specs.MoveParts.{MatchPart};
-ghost use Rattle.run_timeline.specs.TimelineState.{IsFew, marks_for as marks_of_budget};
+ghost use Rattle.run_timeline.specs.TimelineState.{IsFew, marks_for as marks_of_budget, TimelineState, timeline_code};
+ghost use Rattle.run_timeline.specs.TimelineFields.{timeline_state, IsTimeline};
 
 use crate::stops::{Hit, Part, Step, Stops};
 use crate::walk::{TRAIL, Walk};
@@ -35,20 +36,6 @@ pub struct Timeline {
     walk: Walk,
     // The steps before the place that can be undone.
     undo: Undo,
-}
-
-impl Model for Timeline {
-    ghost use Rattle.run_timeline.specs.TimelineState.{TimelineState, timeline_code};
-
-    ghost Value = { TimelineState };
-
-    ghost coded = { timeline_code };
-
-    ghost use Rattle.run_timeline.specs.TimelineFields.{timeline_state, IsTimeline};
-
-    ghost view = { timeline_state };
-
-    ghost invariant = { IsTimeline };
 }
 
 impl Timeline {
@@ -298,6 +285,16 @@ impl Timeline {
         let next = self.walk.place() + 1;
         self.walk.go_within(next, steps);
     }
+}
+
+impl Model for Timeline {
+    ghost Value = { TimelineState };
+
+    ghost coded = { timeline_code };
+
+    ghost view = { timeline_state };
+
+    ghost invariant = { IsTimeline };
 }
 
 // How many marks fit into so many bytes, if a state maps so many pages: at least two.

@@ -8,7 +8,8 @@ ghost use Rattle.run_timeline.specs.declared.stops.Hit.TheVariants.{Watch};
 ghost use Rattle.run_timeline.specs.Moves.{state as state_of, IsPlace, is_end as is_end_of, broken, watched as watched_of};
 ghost use Rattle.run_timeline.specs.StepObservations.{is_hit, seen, IsLastSeen};
 ghost use Rattle.run_timeline.specs.UndoTrail.{Trails};
-ghost use Rattle.run_timeline.specs.WalkState.{IsFew};
+ghost use Rattle.run_timeline.specs.WalkState.{IsFew, WalkState, walk_code};
+ghost use Rattle.run_timeline.specs.WalkFields.{walk_state, IsWalk};
 
 use crate::collector::Collector;
 use crate::looking::{Never, look_back, look_on};
@@ -36,20 +37,6 @@ pub(crate) struct Walk {
     // The greatest place so far.
     reached: u32,
     most: u32,
-}
-
-impl Model for Walk {
-    ghost use Rattle.run_timeline.specs.WalkState.{WalkState, walk_code};
-
-    ghost Value = { WalkState };
-
-    ghost coded = { walk_code };
-
-    ghost use Rattle.run_timeline.specs.WalkFields.{walk_state, IsWalk};
-
-    ghost view = { walk_state };
-
-    ghost invariant = { IsWalk };
 }
 
 impl Walk {
@@ -398,4 +385,14 @@ impl Walk {
         undo.back(&mut self.work);
         self.place -= 1;
     }
+}
+
+impl Model for Walk {
+    ghost Value = { WalkState };
+
+    ghost coded = { walk_code };
+
+    ghost view = { walk_state };
+
+    ghost invariant = { IsWalk };
 }

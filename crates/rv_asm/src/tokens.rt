@@ -1,6 +1,8 @@
 // The tokens of a line of a source.
 ghost use Rattle.std.specs.Prelude.{◌≡◌, ◌≤◌, ◌<◌, ◌^◌, length};
-ghost use Rattle.rv_asm.specs.Tokens.{before_comment, tokens};
+ghost use Rattle.std.proofs.Common.{arith};
+ghost use Rattle.std.proofs.lemmas.Bool.Decides.{nat_tests};
+ghost use Rattle.rv_asm.specs.Tokens.{before_comment, tokens, is_run_byte};
 
 use line_texts::{RunBytes, Tokens, length_before};
 
@@ -9,10 +11,6 @@ use line_texts::{RunBytes, Tokens, length_before};
 pub(crate) struct SourceRuns;
 
 impl RunBytes for SourceRuns {
-    ghost use Rattle.rv_asm.specs.Tokens.{is_run_byte};
-    ghost use Rattle.std.proofs.Common.{arith};
-    ghost use Rattle.std.proofs.lemmas.Bool.Decides.{nat_tests};
-
     ghost in_run = { is_run_byte };
 
     // Letters and digits come in any order, so the test has no branch for each.

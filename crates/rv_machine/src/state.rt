@@ -2,8 +2,10 @@
 ghost use Rattle.std.specs.Prelude.{◌≡◌, ◌<◌, ◌^◌};
 ghost use Rattle.std.specs.List.{All};
 ghost use Rattle.rv_pages.specs.Prelude.{page_numbers};
-ghost use Rattle.rv_machine.specs.MachineState.{IsMachineState};
+ghost use Rattle.rv_machine.specs.MachineState.{IsMachineState, MachineState};
 ghost use Rattle.rv_machine.specs.StateChanges.{with_register};
+ghost use Rattle.rv_machine.specs.StateCode.{state_code};
+ghost use Rattle.rv_machine.specs.StateFields.{machine_state, IsState};
 
 use crate::status::Status;
 use rv_pages::Pages;
@@ -27,21 +29,6 @@ pub struct State {
     pub written: u64,
     /// The memory.
     pub pages: Pages,
-}
-
-impl Model for State {
-    ghost use Rattle.rv_machine.specs.MachineState.{MachineState};
-    ghost use Rattle.rv_machine.specs.StateCode.{state_code};
-
-    ghost Value = { MachineState };
-
-    ghost coded = { state_code };
-
-    ghost use Rattle.rv_machine.specs.StateFields.{machine_state, IsState};
-
-    ghost view = { machine_state };
-
-    ghost invariant = { IsState };
 }
 
 impl Clone for State {
@@ -93,6 +80,16 @@ impl State {
             self.x[register as usize] = value;
         }
     }
+}
+
+impl Model for State {
+    ghost Value = { MachineState };
+
+    ghost coded = { state_code };
+
+    ghost view = { machine_state };
+
+    ghost invariant = { IsState };
 }
 
 // Do nothing. Their contracts are laws: words are below 2 ^ 32, and numbers of 64 bits below 2 ^ 64.

@@ -1,5 +1,5 @@
 // A count of the steps of all machines that share it.
-ghost use Rattle.std.specs.Prelude.{◌≡◌, ◌+◌, ◌<◌};
+ghost use Rattle.std.specs.Prelude.{◌≡◌, ◌+◌, ◌<◌, ℕ};
 
 use crate::memo::Memo;
 use std::marker::Model;
@@ -13,16 +13,6 @@ pub struct Steps<L: Ledger> {
     share: Share<L>,
     // Instructions decoded before.
     pub(crate) memo: Memo,
-}
-
-impl<L: Ledger> Model for Steps<L> {
-    ghost use Rattle.std.specs.Prelude.{ℕ, ◌<◌};
-
-    ghost Value = { ℕ };
-
-    ghost view = { λ s. s.book.total };
-
-    ghost invariant = { λ s. 0 < s.share.parts };
 }
 
 impl<L: Ledger> Steps<L> {
@@ -46,4 +36,12 @@ impl<L: Ledger> Steps<L> {
     {
         self.book.add(&mut self.share, count as u64);
     }
+}
+
+impl<L: Ledger> Model for Steps<L> {
+    ghost Value = { ℕ };
+
+    ghost view = { λ s. s.book.total };
+
+    ghost invariant = { λ s. 0 < s.share.parts };
 }

@@ -3,8 +3,10 @@ ghost use Rattle.std.specs.Prelude.{◌≡◌, ◌↔◌, ℕ, ◌+◌, ◌*◌,
 ghost use Rattle.std.specs.List.{All};
 ghost use Rattle.std.specs.List.Sorted.{IsStrictlyIncreasing};
 ghost use Rattle.std.specs.FinMap as finmap;
+ghost use Rattle.std.specs.Coded.{coded_ℕ};
 ghost use Rattle.rv_pages.specs.Marks.{mark_of};
-ghost use Rattle.rv_pages.specs.Memory.{byte_at, bytes_at, number_at, word_at, IsMapped, with_bytes, with_number, page_numbers, page_bytes, IsPlaceOf, IsZeroPage, KeepsPagesBut, zeroed, IsMemory};
+ghost use Rattle.rv_pages.specs.Memory.{byte_at, bytes_at, number_at, word_at, IsMapped, with_bytes, with_number, page_numbers, page_bytes, IsPlaceOf, IsZeroPage, KeepsPagesBut, zeroed, IsMemory, Memory};
+ghost use Rattle.rv_pages.specs.PageLayout.{ArePages, memory_kept};
 
 use crate::marks::Marks;
 use crate::tables::Tables;
@@ -39,21 +41,6 @@ pub struct Pages {
     bytes: Vec<u8>,
     // The pages that were written. All others are zero.
     written: Marks,
-}
-
-impl Model for Pages {
-    ghost use Rattle.std.specs.Coded.{coded_ℕ};
-    ghost use Rattle.std.specs.FinMap as finmap;
-    ghost use Rattle.rv_pages.specs.Memory.{Memory};
-    ghost use Rattle.rv_pages.specs.PageLayout.{ArePages, memory_kept};
-
-    ghost Value = { Memory };
-
-    ghost coded = { finmap.code coded_ℕ coded_ℕ };
-
-    ghost view = { λ p. memory_kept p.numbers.items p.bytes.items };
-
-    ghost invariant = { λ p. ArePages p.numbers.items p.tables.tops.items p.tables.lows.items p.bytes.items p.written.words };
 }
 
 impl Clone for Pages {
@@ -391,6 +378,16 @@ impl Pages {
             None => None,
         }
     }
+}
+
+impl Model for Pages {
+    ghost Value = { Memory };
+
+    ghost coded = { finmap.code coded_ℕ coded_ℕ };
+
+    ghost view = { λ p. memory_kept p.numbers.items p.bytes.items };
+
+    ghost invariant = { λ p. ArePages p.numbers.items p.tables.tops.items p.tables.lows.items p.bytes.items p.written.words };
 }
 
 // New memory for so many pages of zeros.

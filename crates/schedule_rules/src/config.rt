@@ -8,6 +8,8 @@ ghost use Rattle.schedule_rules.specs.Levels.{slots_kept, images_kept, HasBit};
 ghost use Rattle.schedule_rules.specs.Reachability.{IsReached, IsSound};
 ghost use Rattle.schedule_rules.specs.Verdicts.{refusal};
 ghost use Rattle.schedule_rules.specs.BitRoom.{HasBits};
+ghost use Rattle.schedule_rules.specs.Situation.{Situation, situation_code};
+ghost use Rattle.schedule_rules.specs.ConfigModel.{situation_of, IsKept};
 
 use crate::positions::Positions;
 use level_book::{Book, Slots};
@@ -39,20 +41,6 @@ pub struct Config {
     reverse: u32,
     forward_ended: bool,
     ended: bool,
-}
-
-impl Model for Config {
-    ghost use Rattle.schedule_rules.specs.Situation.{Situation, situation_code};
-
-    ghost Value = { Situation };
-
-    ghost coded = { situation_code };
-
-    ghost use Rattle.schedule_rules.specs.ConfigModel.{situation_of, IsKept};
-
-    ghost view = { situation_of };
-
-    ghost invariant = { IsKept };
 }
 
 impl Config {
@@ -363,6 +351,16 @@ impl Config {
             0
         }
     }
+}
+
+impl Model for Config {
+    ghost Value = { Situation };
+
+    ghost coded = { situation_code };
+
+    ghost view = { situation_of };
+
+    ghost invariant = { IsKept };
 }
 
 // Adds the image of state `n` to a level that doesn't hold it.

@@ -2,7 +2,7 @@
 ghost use Rattle.std.specs.Prelude.{◌≡◌, ℕ, ◌+◌, ◌/◌, ◌<◌, ◌≤◌, IfOk, OnOk, length, slice_get, Some};
 ghost use Rattle.plan_types.specs.declared.limits.TheConstants.{MOST_STEPS};
 ghost use Rattle.rv_machine.specs.Prelude.{MachineState, state_number};
-ghost use Rattle.segment_sweep.specs.MarkedRun.{StandFor, segment_width, last_start};
+ghost use Rattle.segment_sweep.specs.MarkedRun.{StandFor, segment_width, last_start, MarkedRun, marked_code};
 
 use input_journal::Journal;
 use rv_machine::{State, Steps};
@@ -16,16 +16,6 @@ pub struct Marks {
     states: Vec<State>,
     count: u32,
     width: u32,
-}
-
-impl Model for Marks {
-    ghost use Rattle.segment_sweep.specs.MarkedRun.{MarkedRun, marked_code};
-
-    ghost Value = { MarkedRun };
-
-    ghost coded = { marked_code };
-
-    ghost view = { λ m. record { states = m.states.items; count = m.count; width = m.width } };
 }
 
 impl Marks {
@@ -94,6 +84,14 @@ impl Marks {
     {
         &self.states[segment]
     }
+}
+
+impl Model for Marks {
+    ghost Value = { MarkedRun };
+
+    ghost coded = { marked_code };
+
+    ghost view = { λ m. record { states = m.states.items; count = m.count; width = m.width } };
 }
 
 // Takes so many steps from a state of a run.

@@ -1,16 +1,18 @@
 // The state of an image.
 ghost use Rattle.std.specs.Prelude.{◌≡◌, ◌↔◌, ℕ, ◌+◌, ◌≤◌, ◌<◌, false, true, length, slice_index, slice_index_or, None, Some, IfNone, Ok, Err, OnOk, OnErr};
+ghost use Rattle.std.specs.Int.{from_le_bytes, w64};
 ghost use Rattle.rv_pages.specs.Prelude.{page_numbers, page_bytes, IsZeroPage};
 ghost use Rattle.rv_machine.specs.Prelude.{MachineState, IsMachineState, IsStatus};
 ghost use Rattle.state_image.specs.declared.layout.TheConstants.{KIND, VALUE, ITEM};
 ghost use Rattle.state_image.specs.Image.{image, status_kind, status_value};
-ghost use Rattle.state_image.specs.ImageForm.{number_at, first_wrong, first_unmapped, is_value, page_count, page_number, page_part, page_start};
+ghost use Rattle.state_image.specs.ImageForm.{part, number_at, first_wrong, first_unmapped, is_value, page_count, page_number, page_part, page_start};
 ghost use Rattle.state_image.specs.Decoder.{AreRegistersOf, IsUnnamed, AreMapped, MarksNamed, IsRight, IsStateOf};
 
 use crate::fault::ImageFault;
-use crate::form::{first_wrong, long_at, number_at, page_start};
+use crate::form::{first_wrong, number_at, page_start};
 use crate::image::MAX_PAGES;
 use crate::layout::{COUNT, ITEM, KIND, OFFSET, PC, REGISTERS, VALUE, WRITTEN};
+use byteorder::{ByteOrder, LittleEndian};
 use rv_machine::{State, Status};
 use rv_pages::{PAGE, Pages};
 
@@ -77,6 +79,14 @@ fn take_state(bytes: &[u8], named: &[bool], state: &mut State)
     state.written = long_at(bytes, WRITTEN);
     clear_unnamed(named, &mut state.pages);
     copy_pages(bytes, &mut state.pages);
+}
+
+// The number of eight bytes at a place.
+fn long_at(bytes: &[u8], at: usize) -> u64
+    requires { at + 8 ≤ length bytes.now }
+    ensures { result ≡ from_le_bytes w64 (part bytes.now at 8) }
+{
+    LittleEndian::read_u64(&bytes[at..])
 }
 
 // The registers of an image.

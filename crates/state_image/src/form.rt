@@ -1,8 +1,7 @@
 // Whether bytes are an image, field by field.
 ghost use Rattle.std.specs.Prelude.{◌≡◌, ◌+◌, ◌<◌, ◌≤◌, ◌∷◌, [], find, length, None};
-ghost use Rattle.std.specs.Int.{from_le_bytes, w64};
 ghost use Rattle.state_image.specs.declared.layout.TheConstants.{PAGES};
-ghost use Rattle.state_image.specs.ImageForm.{part, number_at, is_value, magic, version, pc, registers, kind, value, item, offset, written, count, header_fields, page, page_start, page_count, rises, is_wrong, start_or, first_wrong};
+ghost use Rattle.state_image.specs.ImageForm.{number_at, is_value, magic, version, pc, registers, kind, value, item, offset, written, count, header_fields, page, page_start, page_count, rises, is_wrong, start_or, first_wrong};
 
 use crate::image::is_zero;
 use crate::layout::{
@@ -145,12 +144,4 @@ pub(crate) fn number_at(bytes: &[u8], at: usize) -> u32
     ensures { result ≡ number_at bytes.now at }
 {
     LittleEndian::read_u32(&bytes[at..])
-}
-
-/// The number of eight bytes at a place.
-pub(crate) fn long_at(bytes: &[u8], at: usize) -> u64
-    requires { at + 8 ≤ length bytes.now }
-    ensures { result ≡ from_le_bytes w64 (part bytes.now at 8) }
-{
-    LittleEndian::read_u64(&bytes[at..])
 }

@@ -6,11 +6,12 @@ use Rattle.level_book.specs.DiskUnderTable.{DiskTables, IsDiskUnderTable}
 use Rattle.cost_tables.specs.TableRows.{tables_in}
 use Rattle.disk_gen.specs.DiskRows.{DiskRows, disk_tables_in}
 use Rattle.table_clauses.specs.declared.entry.Entry.{Entry as Place}
-use Rattle.table_clauses.specs.declared.search.LevelCosts.{LevelCosts}
+use Rattle.cost_tables.specs.declared.costs.Costs.{Costs}
 use Rattle.table_clauses.specs.declared.disk.DiskColumns.{DiskColumns}
 use Rattle.table_clauses.specs.ClauseFailures.{Breaks, DiskBreaks, FreshFails, HeldFails, DiskFreshFails, DiskHeldFails, IsFirst, fast_of}
 use Rattle.table_clauses.specs.Splits.{at_step}
-use Rattle.table_clauses.specs.Columns.{AreCosts, Finds, InLevel}
+use Rattle.cost_tables.specs.LevelCosts.{AreCosts}
+use Rattle.table_clauses.specs.Columns.{Finds, InLevel}
 use Rattle.table_clauses.specs.DiskColumns.{AreDiskColumns, DiskFreshColumnFails, DiskHeldColumnFails, InDiskFreshColumn, InDiskHeldColumn, InDiskColumns}
 use Rattle.table_clauses.proofs.Meanings.{above_same}
 use Rattle.table_clauses.proofs.Places.{widen, before_table}
@@ -18,7 +19,7 @@ use Rattle.table_clauses.proofs.DiskNoFailures.{disk_none_under}
 
 -- ---- the first place of tables Fd and Hd
 
-pub first_of_fresh : (costs : LevelCosts) (columns : DiskColumns) (steps : ℕ) (e : Place) → IsFirst (InDiskFreshColumn costs columns steps) e → IsFirst (InDiskColumns costs columns steps) e
+pub first_of_fresh : (costs : Costs) (columns : DiskColumns) (steps : ℕ) (e : Place) → IsFirst (InDiskFreshColumn costs columns steps) e → IsFirst (InDiskColumns costs columns steps) e
 first_of_fresh costs columns steps e is =
     widen (InDiskFreshColumn costs columns steps) (InDiskColumns costs columns steps) e is (inl is.broken)
     (λ q before broken. elim broken [
@@ -26,7 +27,7 @@ first_of_fresh costs columns steps e is =
       | inr d ↦ let le = before_table q e before in absurd (omega (arith, d.table_is, is.broken.table_is))
     ])
 
-pub first_of_both : (costs : LevelCosts) (columns : DiskColumns) (steps : ℕ) (o : Option Place) → ((q : Place) → InDiskFreshColumn costs columns steps q → ⊥) → Finds (InDiskHeldColumn costs columns steps) o →
+pub first_of_both : (costs : Costs) (columns : DiskColumns) (steps : ℕ) (o : Option Place) → ((q : Place) → InDiskFreshColumn costs columns steps q → ⊥) → Finds (InDiskHeldColumn costs columns steps) o →
     Finds (InDiskColumns costs columns steps) o
 first_of_both costs columns steps None none held = λ q broken. elim broken [ inl d ↦ none q d | inr d ↦ held q d ]
 first_of_both costs columns steps (Some e) none held =
@@ -125,7 +126,7 @@ module _ (rows : DiskRows) (book : BookCosts) where
 
     -- ---- tables Fd and Hd
 
-    module _ (rooms : slice_index rows.fast.rooms 0 ≡ room book 0 steps) (costs : LevelCosts) (are : AreCosts book 1 costs) (columns : DiskColumns) (is : AreDiskColumns rows columns) where
+    module _ (rooms : slice_index rows.fast.rooms 0 ≡ room book 0 steps) (costs : Costs) (are : AreCosts book 1 costs) (columns : DiskColumns) (is : AreDiskColumns rows columns) where
       disk_fresh_to : (l c : ℕ) → 1 ≤ l → l ≤ steps → DiskFreshColumnFails costs columns l c → DiskFreshFails steps book t l c
       disk_fresh_to l c one le (inl w) =
           inl (w.0, above_same (at_step columns.fresh.items l) (t.disk_fresh l) (at_step columns.fast.items l) (t.fresh l (room book 0 steps)) (is.fresh.value l one le) (is.fast.value l one le ∙ ap (λ m. t.fresh l m) rooms) w.1)

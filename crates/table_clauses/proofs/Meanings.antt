@@ -6,13 +6,14 @@ use Rattle.level_book.specs.UnderTable.{Entry, number, Tables, sum_of, write_cos
 use Rattle.cost_tables.specs.declared.cost.Cost.{Cost}
 use Rattle.cost_tables.specs.TableRows.{TableRows, tables_in}
 use Rattle.table_clauses.specs.declared.entry.Entry.{Entry as Place}
-use Rattle.table_clauses.specs.declared.search.LevelCosts.{LevelCosts}
+use Rattle.cost_tables.specs.declared.costs.Costs.{Costs}
 use Rattle.table_clauses.specs.declared.search.Pair.{Pair}
 use Rattle.table_clauses.specs.declared.search.FreshColumns.{FreshColumns}
 use Rattle.table_clauses.specs.declared.search.HeldColumns.{HeldColumns}
 use Rattle.table_clauses.specs.ClauseFailures.{IsAbove, Breaks, FreshFails, HeldFails, IsFirst}
 use Rattle.table_clauses.specs.Splits.{at_step, IsColumn}
-use Rattle.table_clauses.specs.Columns.{AreCosts, AreFreshColumns, AreHeldColumns, AreLong, AreLongHeld, IsPair, IsPairBefore, IsFaster, BeforeSplitFails, StoredFails, FreshColumnFails, HeldColumnFails, InFreshColumn, InHeldColumn, InLevel}
+use Rattle.cost_tables.specs.LevelCosts.{AreCosts}
+use Rattle.table_clauses.specs.Columns.{AreFreshColumns, AreHeldColumns, AreLong, AreLongHeld, IsPair, IsPairBefore, IsFaster, BeforeSplitFails, StoredFails, FreshColumnFails, HeldColumnFails, InFreshColumn, InHeldColumn, InLevel}
 use Rattle.table_clauses.proofs.Places.{column_next, column_more}
 
 pub above_same : (a b x y : Entry) → a ≡ b → x ≡ y → IsAbove a x → IsAbove b y
@@ -46,7 +47,7 @@ are_long_held t k m columns are = record {
 
 -- ---- the parts of a clause
 
-module _ (rows : TableRows) (book : BookCosts) (k : ℕ) (costs : LevelCosts) (are : AreCosts book k costs) (rooms : (j : ℕ) → suc j ≡ k → slice_index rows.rooms j ≡ room book j rows.steps) where
+module _ (rows : TableRows) (book : BookCosts) (k : ℕ) (costs : Costs) (are : AreCosts book k costs) (rooms : (j : ℕ) → suc j ≡ k → slice_index rows.rooms j ≡ room book j rows.steps) where
   abbrev t : Tables
   t = tables_in rows
 

@@ -6,7 +6,8 @@ use Rattle.level_book.specs.UnderTable.{Entry, number, sum_of, write_cost, read_
 use Rattle.cost_tables.specs.declared.cost.Cost.{Cost}
 use Rattle.cost_tables.specs.TableRows.{TableRows, tables_in}
 use Rattle.table_clauses.specs.declared.entry.Entry.{Entry as Place}
-use Rattle.table_clauses.specs.declared.search.LevelCosts.{LevelCosts}
+use Rattle.cost_tables.specs.declared.costs.Costs.{Costs}
+use Rattle.cost_tables.specs.LevelCosts.{AreCheap}
 use Rattle.table_clauses.specs.declared.search.Pair.{Pair}
 use Rattle.table_clauses.specs.declared.search.FreshColumns.{FreshColumns}
 use Rattle.table_clauses.specs.declared.search.HeldColumns.{HeldColumns}
@@ -23,7 +24,7 @@ FasterFails own faster l = MatchOption faster ⊥ (λ column. IsAbove own (at_st
 abbrev pub MovedFails : Entry → ℕ → Option (Vec Cost Global) → ℕ → Type 0
 MovedFails own read faster l = MatchOption faster ⊥ (λ column. IsAbove own (sum_of read (number 0) (at_step column.items l)))
 
-abbrev pub BeforeSplitFails : Entry → LevelCosts → Option Pair → ℕ → Type 0
+abbrev pub BeforeSplitFails : Entry → Costs → Option Pair → ℕ → Type 0
 BeforeSplitFails own costs before l =
     MatchOption before ⊥ (λ pair. SplitFails own costs.write costs.forward pair.fresh.items pair.held.items l)
 
@@ -31,25 +32,18 @@ abbrev pub StoredFails : Entry → ℕ → Option Pair → ℕ → Type 0
 StoredFails own write before l = MatchOption before ⊥ (λ pair. IsAbove own (sum_of write (number 0) (at_step pair.held.items l)))
 
 -- the clause fails at the entry of table F, or of table H, for l steps
-abbrev pub FreshColumnFails : LevelCosts → FreshColumns → ℕ → ℕ → Type 0
+abbrev pub FreshColumnFails : Costs → FreshColumns → ℕ → ℕ → Type 0
 FreshColumnFails costs columns l clause =
     ((clause ≡ 1) × ((l ≡ 1) × IsAbove (at_step columns.own.items l) (number (costs.forward + costs.reverse))))
     ⊎ ((clause ≡ 2) × FasterFails (at_step columns.own.items l) columns.faster l)
     ⊎ ((clause ≡ 3) × BeforeSplitFails (at_step columns.own.items l) costs columns.before l)
     ⊎ ((clause ≡ 4) × StoredFails (at_step columns.own.items l) costs.write columns.before l)
 
-abbrev pub HeldColumnFails : LevelCosts → HeldColumns → ℕ → ℕ → Type 0
+abbrev pub HeldColumnFails : Costs → HeldColumns → ℕ → ℕ → Type 0
 HeldColumnFails costs columns l clause =
     ((clause ≡ 5) × ((l ≡ 1) × IsAbove (at_step columns.here.held.items l) (number (costs.read + costs.forward + costs.reverse))))
     ⊎ ((clause ≡ 6) × MovedFails (at_step columns.here.held.items l) costs.read columns.faster l)
     ⊎ ((clause ≡ 7) × SplitFails (at_step columns.here.held.items l) costs.read costs.forward columns.here.fresh.items columns.here.held.items l)
-
--- sums of such costs don't wrap
-pub record AreCheap (costs : LevelCosts) : Type 0 where
-  pub forward : costs.forward < 2 ^ 32
-  pub reverse : costs.reverse < 2 ^ 32
-  pub write : costs.write < 2 ^ 32
-  pub read : costs.read < 2 ^ 32
 
 -- columns have entries for so many steps
 pub record AreLong (steps : ℕ) (columns : FreshColumns) : Type 0 where
@@ -103,21 +97,13 @@ pub record InColumn (table k m steps : ℕ) (Fails : ℕ → ℕ → Type 0) (p 
   pub within : p.steps ≤ steps
   pub fails : Fails p.steps p.clause
 
-abbrev pub InFreshColumn : LevelCosts → FreshColumns → ℕ → ℕ → ℕ → Place → Type 0
+abbrev pub InFreshColumn : Costs → FreshColumns → ℕ → ℕ → ℕ → Place → Type 0
 InFreshColumn costs columns k m steps = InColumn 0 k m steps (FreshColumnFails costs columns)
 
-abbrev pub InHeldColumn : LevelCosts → HeldColumns → ℕ → ℕ → ℕ → Place → Type 0
+abbrev pub InHeldColumn : Costs → HeldColumns → ℕ → ℕ → ℕ → Place → Type 0
 InHeldColumn costs columns k m steps = InColumn 1 k m steps (HeldColumnFails costs columns)
 
 -- ---- columns of tables
-
--- the costs are those of a book's level
-pub record AreCosts (book : BookCosts) (k : ℕ) (costs : LevelCosts) : Type 0 where
-  pub cheap : AreCheap costs
-  pub forward : costs.forward ≡ book.forward
-  pub reverse : costs.reverse ≡ book.reverse
-  pub write : costs.write ≡ write_cost book k
-  pub read : costs.read ≡ read_cost book k
 
 -- the columns of level k at m free slots
 pub record IsPair (t : TableRows) (k m : ℕ) (pair : Pair) : Type 0 where

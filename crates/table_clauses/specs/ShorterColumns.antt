@@ -1,6 +1,6 @@
 -- No public clause cites this file. What can be looked at for so many steps can be for fewer.
 use Rattle.std.proofs.Common.{ℕ, ◌≤◌, Option, None, Some, IfSome, arith}
-use Rattle.table_clauses.specs.declared.search.LevelCosts.{LevelCosts}
+use Rattle.cost_tables.specs.declared.costs.Costs.{Costs}
 use Rattle.table_clauses.specs.declared.search.FreshColumns.{FreshColumns}
 use Rattle.table_clauses.specs.declared.search.HeldColumns.{HeldColumns}
 use Rattle.table_clauses.specs.declared.search.Compared.{Compared}
@@ -38,7 +38,7 @@ held_shorter column l steps le is = record {
   below = is.below;
 }
 
-pub disk_shorter : (costs : LevelCosts) (columns : DiskColumns) (l steps : ℕ) → l ≤ steps → AreDiskReached costs columns steps → AreDiskReached costs columns l
+pub disk_shorter : (costs : Costs) (columns : DiskColumns) (l steps : ℕ) → l ≤ steps → AreDiskReached costs columns steps → AreDiskReached costs columns l
 disk_shorter costs columns l steps le is = record {
   few = omega (arith, is.few);
   cheap = is.cheap;

@@ -1,9 +1,10 @@
 // Tables over memory and an unlimited disk.
 ghost use Rattle.std.specs.Prelude.{◌^◌, ◌<◌, ◌≤◌, IfOk, MatchOption};
 ghost use Rattle.level_book.specs.Prelude.{IsDiskUnderTable};
+ghost use Rattle.cost_tables.specs.Prelude.{AreCosts};
 ghost use Rattle.disk_gen.specs.Prelude.{AreDiskSized, disk_tables_in};
 ghost use Rattle.table_clauses.specs.ClauseFailures.{DiskBreaks, IsFirst};
-ghost use Rattle.table_clauses.specs.Columns.{AreCosts, IsFirstClause, Finds};
+ghost use Rattle.table_clauses.specs.Columns.{IsFirstClause, Finds};
 ghost use Rattle.table_clauses.specs.Splits.{IsColumn};
 ghost use Rattle.table_clauses.specs.DiskColumns.{AreDiskColumns, AreDiskReached, AreDiskSplits, AreLongDisk, DiskColumnFails, DiskFreshColumnFails, DiskHeldColumnFails, InDiskColumns};
 ghost use Rattle.table_clauses.specs.ShorterColumns.{disk_shorter};
@@ -11,10 +12,10 @@ ghost use Rattle.table_clauses.specs.ShorterColumns.{disk_shorter};
 use crate::column::column_of;
 use crate::compare::{is_at_most, is_within};
 use crate::entry::Entry;
-use crate::nested::{TableLevel, costs_of, fresh_costs, fresh_level, held_level, level_splits};
-use crate::search::{Column, LevelCosts, first_in_column};
+use crate::nested::{TableLevel, fresh_costs, fresh_level, held_level, level_splits};
+use crate::search::{Column, first_in_column};
 use crate::splits::{Splits, breaks_split, least_splits};
-use cost_tables::Cost;
+use cost_tables::{Cost, Costs};
 use disk_gen::DiskTables;
 use level_book::Book;
 use std::alloc::{AllocError, Global};
@@ -23,11 +24,11 @@ use std::alloc::{AllocError, Global};
 // of tables Fd and Hd.
 #[derive(Drop)]
 pub(crate) struct DiskColumns {
-    pub(crate) fast: Vec<Cost>,
-    pub(crate) fresh: Vec<Cost>,
-    pub(crate) held: Vec<Cost>,
-    pub(crate) fresh_splits: Vec<u64>,
-    pub(crate) held_splits: Vec<u64>,
+    pub fast: Vec<Cost>,
+    pub fresh: Vec<Cost>,
+    pub held: Vec<Cost>,
+    pub fresh_splits: Vec<u64>,
+    pub held_splits: Vec<u64>,
 }
 
 /// The first place at which the tables break a clause. None: they are a disk under-table. The book may have one level,
@@ -63,16 +64,16 @@ pub fn first_broken_disk(
 }
 
 // What steps cost, and an image on level 1. A book of one level has no costs there.
-fn disk_costs(book: &Book) -> LevelCosts
+fn disk_costs(book: &Book) -> Costs
     ensures { AreCosts book.now 1 result }
 {
     if book.levels() > 1 {
-        return costs_of(book, 1);
+        return Costs::of(book, 1);
     }
-    LevelCosts {
+    Costs {
         write: 0,
         read: 0,
-        ..costs_of(book, 0)
+        ..Costs::of(book, 0)
     }
 }
 
@@ -113,7 +114,7 @@ fn disk_held_costs(alloc: Global, tables: &DiskTables) -> Result<Vec<Cost>, Allo
 }
 
 // The first place in tables Fd and Hd.
-fn first_over_both(columns: &DiskColumns, costs: LevelCosts, steps: u32) -> Option<Entry>
+fn first_over_both(columns: &DiskColumns, costs: Costs, steps: u32) -> Option<Entry>
     requires { AreDiskReached costs columns.now steps }
     ensures { Finds (InDiskColumns costs columns.now steps) result }
 {
@@ -135,9 +136,9 @@ fn first_over_both(columns: &DiskColumns, costs: LevelCosts, steps: u32) -> Opti
 // The column of table Fd, or that of table Hd.
 #[derive(Clone, Copy)]
 pub(crate) struct DiskColumn<'a> {
-    pub(crate) columns: &'a DiskColumns,
-    pub(crate) costs: LevelCosts,
-    pub(crate) is_held: bool,
+    pub columns: &'a DiskColumns,
+    pub costs: Costs,
+    pub is_held: bool,
 }
 
 impl<'a> Column for DiskColumn<'a> {
@@ -156,7 +157,7 @@ impl<'a> Column for DiskColumn<'a> {
 }
 
 // The first clause that fails at an entry of table Fd.
-fn disk_fresh_clause(columns: &DiskColumns, costs: LevelCosts, l: u32) -> Option<u8>
+fn disk_fresh_clause(columns: &DiskColumns, costs: Costs, l: u32) -> Option<u8>
     requires l { 1 ≤ l }
     requires reached { AreDiskReached costs columns.now l }
     ensures { IsFirstClause (DiskFreshColumnFails costs columns.now l) result }
@@ -177,7 +178,7 @@ fn disk_fresh_clause(columns: &DiskColumns, costs: LevelCosts, l: u32) -> Option
 }
 
 // The first clause that fails at an entry of table Hd.
-fn disk_held_clause(columns: &DiskColumns, costs: LevelCosts, l: u32) -> Option<u8>
+fn disk_held_clause(columns: &DiskColumns, costs: Costs, l: u32) -> Option<u8>
     requires l { 1 ≤ l }
     requires reached { AreDiskReached costs columns.now l }
     ensures { IsFirstClause (DiskHeldColumnFails costs columns.now l) result }

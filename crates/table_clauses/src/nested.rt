@@ -3,14 +3,14 @@ ghost use Rattle.std.specs.Prelude.{◌≡◌, ℕ, ◌-◌, ◌^◌, ◌<◌, �
 ghost use Rattle.level_book.specs.Prelude.{IsUnderTable};
 ghost use Rattle.cost_tables.specs.Prelude.{AreFor, tables_in};
 ghost use Rattle.table_clauses.specs.ClauseFailures.{Breaks, IsFirst};
-ghost use Rattle.table_clauses.specs.Columns.{AreCosts, AreFreshColumns, AreHeldColumns, AreSplits, AreSplitsAt, AreSplitsOf, IsComparable, IsFaster, IsPair, IsPairBefore, Finds, InTable, InLevel, LevelBreaks, table_number};
+ghost use Rattle.table_clauses.specs.Columns.{AreFreshColumns, AreHeldColumns, AreSplits, AreSplitsAt, AreSplitsOf, IsComparable, IsFaster, IsPair, IsPairBefore, Finds, InTable, InLevel, LevelBreaks, table_number};
 ghost use Rattle.table_clauses.specs.Splits.{IsColumn};
 
 use crate::column::column_of;
 use crate::entry::Entry;
-use crate::search::{Compared, FreshColumns, HeldColumns, LevelCosts, Pair, first_in_column};
+use crate::search::{Compared, FreshColumns, HeldColumns, Pair, first_in_column};
 use crate::splits::least_splits;
-use cost_tables::{Cost, Tables};
+use cost_tables::{Cost, Costs, Tables};
 use level_book::Book;
 use std::alloc::{AllocError, Global};
 
@@ -92,10 +92,10 @@ fn slot_splits(
 // A level of tables, the book, and lower bounds for the level's splits at each number of free slots.
 #[derive(Clone, Copy)]
 pub(crate) struct TableLevel<'a> {
-    pub(crate) tables: &'a Tables,
-    pub(crate) book: &'a Book,
-    pub(crate) k: u8,
-    pub(crate) splits: &'a [Vec<u64>],
+    pub tables: &'a Tables,
+    pub book: &'a Book,
+    pub k: u8,
+    pub splits: &'a [Vec<u64>],
 }
 
 // The first place in table H, or in table F.
@@ -146,7 +146,7 @@ pub(crate) fn fresh_level(alloc: Global, level: &TableLevel) -> Result<Option<En
     requires { IsComparable level.now }
     ensures { IfOk result (Finds (InLevel 0 level.now.k (LevelBreaks level.now))) }
 {
-    let costs = costs_of(level.book, level.k);
+    let costs = Costs::of(level.book, level.k);
     for m in 0..=level.tables.room(level.k) {
         let columns = fresh_columns(alloc, level.tables, level.k, m)?;
         let column = Compared {
@@ -166,7 +166,7 @@ pub(crate) fn held_level(alloc: Global, level: &TableLevel) -> Result<Option<Ent
     requires { IsComparable level.now }
     ensures { IfOk result (Finds (InLevel 1 level.now.k (LevelBreaks level.now))) }
 {
-    let costs = costs_of(level.book, level.k);
+    let costs = Costs::of(level.book, level.k);
     for m in 0..level.tables.room(level.k) {
         let columns = held_columns(alloc, level.tables, level.k, m)?;
         let column = Compared {
@@ -190,20 +190,6 @@ fn splits_before(splits: &[Vec<u64>], m: u32) -> &[u64]
         return &[];
     }
     &splits[m as usize - 1]
-}
-
-// What steps cost, and an image on level k.
-pub(crate) fn costs_of(book: &Book, k: u8) -> LevelCosts
-    requires { k < length book.now.levels }
-    ensures { AreCosts book.now k result }
-{
-    let level = book.level(k);
-    LevelCosts {
-        forward: book.forward() as u64,
-        reverse: book.reverse() as u64,
-        write: level.write as u64,
-        read: level.read as u64,
-    }
 }
 
 // The columns that an entry of table F is compared with.

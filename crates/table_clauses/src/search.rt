@@ -1,48 +1,39 @@
 // The clauses of one entry, and of the entries of one column.
 ghost use Rattle.std.specs.Prelude.{◌≡◌, ◌↔◌, ℕ, ◌+◌, ◌≤◌, true, IfSome, length};
 ghost use Rattle.level_book.specs.Prelude.{number};
-ghost use Rattle.cost_tables.specs.Prelude.{value_of};
+ghost use Rattle.cost_tables.specs.Prelude.{AreCheap, value_of};
 ghost use Rattle.table_clauses.specs.ClauseFailures.{IsAbove};
 ghost use Rattle.table_clauses.specs.Splits.{at_step, AreBelowSplits};
-ghost use Rattle.table_clauses.specs.Columns.{AreCheap, FasterFails, MovedFails, BeforeSplitFails, StoredFails, FreshColumnFails, HeldColumnFails, IsFreshReached, IsHeldReached, IsFirstClause, Finds, InColumn};
+ghost use Rattle.table_clauses.specs.Columns.{FasterFails, MovedFails, BeforeSplitFails, StoredFails, FreshColumnFails, HeldColumnFails, IsFreshReached, IsHeldReached, IsFirstClause, Finds, InColumn};
 ghost use Rattle.table_clauses.specs.ShorterColumns.{fresh_shorter, held_shorter};
 
 use crate::compare::{is_at_most, is_within};
 use crate::entry::Entry;
 use crate::splits::{Splits, breaks_split};
-use cost_tables::Cost;
-
-// What steps cost, and an image on a level.
-#[derive(Clone, Copy)]
-pub(crate) struct LevelCosts {
-    pub(crate) forward: u64,
-    pub(crate) reverse: u64,
-    pub(crate) write: u64,
-    pub(crate) read: u64,
-}
+use cost_tables::{Cost, Costs};
 
 // The columns of tables F and H for a level and a number of free slots.
 #[derive(Drop)]
 pub(crate) struct Pair {
-    pub(crate) fresh: Vec<Cost>,
-    pub(crate) held: Vec<Cost>,
+    pub fresh: Vec<Cost>,
+    pub held: Vec<Cost>,
 }
 
 // The columns that the clauses of table F mention. They are its own, the faster level's with all its slots, and its
 // level's with a free slot less.
 #[derive(Drop)]
 pub(crate) struct FreshColumns {
-    pub(crate) own: Vec<Cost>,
-    pub(crate) faster: Option<Vec<Cost>>,
-    pub(crate) before: Option<Pair>,
+    pub own: Vec<Cost>,
+    pub faster: Option<Vec<Cost>>,
+    pub before: Option<Pair>,
 }
 
 // The columns that the clauses of table H mention. They are those of its level and free slots, and that of the faster
 // level with all its slots.
 #[derive(Drop)]
 pub(crate) struct HeldColumns {
-    pub(crate) faster: Option<Vec<Cost>>,
-    pub(crate) here: Pair,
+    pub faster: Option<Vec<Cost>>,
+    pub here: Pair,
 }
 
 // Whether the entry of one step is above a number.
@@ -80,7 +71,7 @@ fn breaks_moved(own: Cost, read: u64, faster: &Option<Vec<Cost>>, l: u32) -> boo
 }
 
 // Whether an entry is above what it costs to store the first state and split the stretch.
-fn breaks_before(own: Cost, costs: LevelCosts, before: &Option<Pair>, least: &[u64], l: u32) -> bool
+fn breaks_before(own: Cost, costs: Costs, before: &Option<Pair>, least: &[u64], l: u32) -> bool
     requires l { (1 ≤ l) × (l ≤ 8192) }
     requires cheap { AreCheap costs }
     requires long { IfSome before.now (λ pair. (l ≤ length pair.fresh.items) × (l ≤ length pair.held.items)) }
@@ -133,9 +124,9 @@ pub(crate) trait Column {
 // Columns, what their level costs, and lower bounds of splits. For table F they are the splits with a free slot less.
 #[derive(Clone, Copy)]
 pub(crate) struct Compared<'a, T> {
-    pub(crate) columns: &'a T,
-    pub(crate) costs: LevelCosts,
-    pub(crate) least: &'a [u64],
+    pub columns: &'a T,
+    pub costs: Costs,
+    pub least: &'a [u64],
 }
 
 // The column of table F.

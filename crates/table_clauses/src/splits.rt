@@ -5,29 +5,8 @@ ghost use Rattle.table_clauses.specs.Splits.{at_step, AreAddable, AreBelowSplits
 
 use crate::column::{ahead, backward};
 use crate::compare::{is_at_most, is_within};
-use cost_tables::Cost;
+use cost_tables::{Cost, least_sum};
 use std::alloc::{AllocError, Global};
-
-// Above all sums of two numbers that splits add.
-const ABOVE: u64 = 9223372036854775808;
-
-// The least sum of two numbers at the same place.
-fn least_sum(xs: &[u64], ys: &[u64]) -> u64
-    requires long { length xs.now ≡ length ys.now }
-    requires xs { All (λ n. n ≤ 2 ^ 61) xs.now }
-    requires ys { All (λ n. n ≤ 2 ^ 62) ys.now }
-    ensures small { result ≤ 2 ^ 63 }
-    ensures least { (i : ℕ) → i < length xs.now → result ≤ slice_index xs.now i + slice_index ys.now i }
-{
-    let mut least = ABOVE;
-    for i in 0..xs.len() {
-        let cost = xs[i] + ys[i];
-        if cost < least {
-            least = cost;
-        }
-    }
-    least
-}
 
 // The least cost of the splits of row r's stretch, without that of its first image.
 fn least_split(back: &[u64], ahead: &[u64], r: usize) -> u64

@@ -1,11 +1,12 @@
 // Workers that take digests.
-ghost use Rattle.std.specs.Prelude.{◌≡◌, ◌⊎◌, ℕ, ◌*◌, ◌≤◌, ◌<◌, IfOk, length};
+ghost use Rattle.std.specs.Prelude.{◌≡◌, ◌⊎◌, ℕ, ◌*◌, ◌≤◌, ◌<◌, IfOk, length, List};
 ghost use Rattle.std.specs.Vec.{vec_capacity};
 ghost use Rattle.std.specs.List.{AllByRecursion};
 ghost use Rattle.state_image.specs.Prelude.{memory_room};
 ghost use Rattle.unit_undo.specs.Prelude.{LeadsBack, led_back};
 ghost use Rattle.unit_digests.specs.declared.digesters.TheConstants.{STATE_BYTES};
 ghost use Rattle.unit_digests.specs.Digests.{states_of, AreDigests, IsKnown, HasPages};
+ghost use Rattle.unit_digests.specs.WorkDivision.{pages_mapped, IsTeam};
 
 use crate::sharing::{Deal, Digester, least_unknown, make_room, put_digests, take_digests};
 use plan_types::Gate;
@@ -24,18 +25,6 @@ pub const STATE_BYTES: u32 = 64 * 1024 * 1024;
 #[derive(Drop)]
 pub struct Digesters {
     all: Vec<Digester>,
-}
-
-impl Model for Digesters {
-    ghost use Rattle.std.specs.Prelude.{ℕ, List};
-
-    ghost Value = { List (List ℕ) };
-
-    ghost use Rattle.unit_digests.specs.WorkDivision.{pages_mapped, IsTeam};
-
-    ghost view = { pages_mapped };
-
-    ghost invariant = { IsTeam };
 }
 
 impl Digesters {
@@ -98,6 +87,14 @@ impl Digesters {
         self.all = take_digests(rt, gate, after, undo, deal, digesters);
         put_digests(&self.all, known);
     }
+}
+
+impl Model for Digesters {
+    ghost Value = { List (List ℕ) };
+
+    ghost view = { pages_mapped };
+
+    ghost invariant = { IsTeam };
 }
 
 // The number of workers, limited by the unit and the memory of their states.

@@ -1,8 +1,9 @@
 // A walk back over an undo list, which doesn't change.
-ghost use Rattle.std.specs.Prelude.{◌≡◌, ◌∷◌, length};
+ghost use Rattle.std.specs.Prelude.{◌≡◌, ◌∷◌, length, List};
 ghost use Rattle.rv_pages.specs.Prelude.{page_numbers};
 ghost use Rattle.unit_undo.specs.Entry.{Entry, undone};
-ghost use Rattle.unit_undo.specs.UndoState.{CanGoBack};
+ghost use Rattle.unit_undo.specs.UndoState.{CanGoBack, entries_code};
+ghost use Rattle.unit_undo.specs.UndoFields.{entries_walked, IsWalk};
 
 use crate::saved::Saved;
 use rv_machine::State;
@@ -13,22 +14,6 @@ use std::marker::Model;
 pub struct UndoWalk<'a> {
     pub(crate) entries: &'a [Saved],
     pub(crate) bytes: &'a [u8],
-}
-
-impl<'a> Model for UndoWalk<'a> {
-    ghost use Rattle.std.specs.Prelude.{List};
-    ghost use Rattle.unit_undo.specs.Entry.{Entry as AnEntry};
-    ghost use Rattle.unit_undo.specs.UndoState.{entries_code};
-
-    ghost Value = { List AnEntry };
-
-    ghost coded = { entries_code };
-
-    ghost use Rattle.unit_undo.specs.UndoFields.{entries_walked, IsWalk};
-
-    ghost view = { entries_walked };
-
-    ghost invariant = { IsWalk };
 }
 
 impl<'a> UndoWalk<'a> {
@@ -52,4 +37,14 @@ impl<'a> UndoWalk<'a> {
         self.entries = entries;
         self.bytes = bytes;
     }
+}
+
+impl<'a> Model for UndoWalk<'a> {
+    ghost Value = { List Entry };
+
+    ghost coded = { entries_code };
+
+    ghost view = { entries_walked };
+
+    ghost invariant = { IsWalk };
 }

@@ -50,9 +50,6 @@ fresh_column-requires-clause-held g c =
 pub fresh_column-requires-clause-count : goal.fresh_column-requires-clause-count
 fresh_column-requires-clause-count g c = ap length c.deref-3.ensures.value ∙ c.in_ok-held.ensures.count ∙ ap length c.deref.ensures.value ∙ sym (ap length c.deref-2.ensures.value)
 
-pub returns-clause-sizes : goal.returns-clause-sizes
-returns-clause-sizes g c = record { sized = c.in_ok-fast.ensures.sizes; plan = c.requires.plan }
-
 pub invariant_of-result : goal.invariant_of-result
 invariant_of-result g c =
     let book = c.args.book.now in let sizes = c.in_ok-fast.ensures.sizes in let two = c.requires.plan.two in
@@ -65,8 +62,8 @@ invariant_of-result g c =
       held_count = same_count c.in_ok-disk_held.disk_held.items c.deref-4.result.now c.in_ok-disk_held.ensures ∙ ap length c.deref-4.ensures.value ∙ held;
     }
 
-pub returns-clause-greatest : goal.returns-clause-greatest
-returns-clause-greatest g c =
+pub returns : goal.returns
+returns g c =
     let book = c.args.book.now in let level = c.level-disk.result.now in
     let column = c.in_ok-column.column.items in let held = c.in_ok-held.held.items in let fresh = c.in_ok-fresh.fresh.items in
     let made : Inside = record { fast = c.in_ok-fast.fast; disk_fresh = c.in_ok-disk_fresh.disk_fresh; disk_held = c.in_ok-disk_held.disk_held } in
@@ -85,10 +82,14 @@ returns-clause-greatest g c =
     let FH : List ℕ → Type 0 = λ xs. IsFreshColumn c.forward-forward.result level.write column xs fresh in
     let FF : ℕ → Type 0 = λ n. IsFreshColumn n level.write column held fresh in
     let FW : ℕ → Type 0 = λ n. IsFreshColumn book.forward n column held fresh in
-    filled_greatest c.args.steps book made column fresh held (let two = c.requires.plan.two in omega arith) c.in_ok-fast.ensures.sizes c.in_ok-fast.ensures.greatest c.requires.fits.few
-    f b (subst Low (sym write) w) (subst Low (sym read) r) c.in_ok-column.ensures.count c.in_ok-column.ensures.value
-    (subst HR (sym read) (subst HF c.forward-forward.ensures (subst H c.deref.ensures.value c.in_ok-held.ensures.column)))
-    (c.in_ok-held.ensures.count ∙ ap length c.deref.ensures.value)
-    (subst FW (sym write) (subst FF c.forward-forward.ensures (subst FH c.deref-3.ensures.value (subst F c.deref-2.ensures.value c.in_ok-fresh.ensures.column))))
-    (c.in_ok-fresh.ensures.count ∙ ap length c.deref-2.ensures.value)
-    (c.in_ok-disk_fresh.ensures ∙ ap (λ (xs : List ℕ). map entry xs) c.deref-5.ensures.value) (c.in_ok-disk_held.ensures ∙ ap (λ (xs : List ℕ). map entry xs) c.deref-4.ensures.value)
+    record {
+      fits = c.requires.fits;
+      sizes = record { sized = c.in_ok-fast.ensures.sizes; plan = c.requires.plan };
+      greatest = filled_greatest c.args.steps book made column fresh held (let two = c.requires.plan.two in omega arith) c.in_ok-fast.ensures.sizes c.in_ok-fast.ensures.greatest c.requires.fits.few
+          f b (subst Low (sym write) w) (subst Low (sym read) r) c.in_ok-column.ensures.count c.in_ok-column.ensures.value
+          (subst HR (sym read) (subst HF c.forward-forward.ensures (subst H c.deref.ensures.value c.in_ok-held.ensures.column)))
+          (c.in_ok-held.ensures.count ∙ ap length c.deref.ensures.value)
+          (subst FW (sym write) (subst FF c.forward-forward.ensures (subst FH c.deref-3.ensures.value (subst F c.deref-2.ensures.value c.in_ok-fresh.ensures.column))))
+          (c.in_ok-fresh.ensures.count ∙ ap length c.deref-2.ensures.value)
+          (c.in_ok-disk_fresh.ensures ∙ ap (λ (xs : List ℕ). map entry xs) c.deref-5.ensures.value) (c.in_ok-disk_held.ensures ∙ ap (λ (xs : List ℕ). map entry xs) c.deref-4.ensures.value);
+    }

@@ -15,17 +15,17 @@ has_list-requires c = can_read c.args.steps c.args.book.now c.args.tables.now c.
 pub whole_list-requires-clause-ready : goal.whole_list-requires-clause-ready
 whole_list-requires-clause-ready c = can_read c.args.steps c.args.book.now c.args.tables.now c.requires.sizes (c.greatest_is_exact.ensures c.args.steps c.args.book.now (tables_in c.args.tables.now) (few_steps c.args.steps c.requires.fits.few) c.is_within_limits.ensures c.requires.greatest) c.requires.fits.few
 
-pub returns-in-Ok-clause-nested : goal.returns-in-Ok-clause-nested
-returns-in-Ok-clause-nested c =
-    let P : ℕ → Type 0 = λ n. Nested n (slots_of c.args.book.now) c.in-Ok.list.items in
-    subst P c.requires.sizes.steps_are (written_nested c.args.tables.now.steps c.args.book.now (tables_in c.args.tables.now) c.in-Ok.list.items c.has_list.ensures.levels c.in-Ok.ensures)
+pub returns-clause-nested : goal.returns-clause-nested
+returns-clause-nested c =
+    let P : ℕ → Type 0 = λ n. Nested n (slots_of c.args.book.now) c.in_ok-whole_list.field-0.items in
+    subst P c.requires.sizes.steps_are (written_nested c.args.tables.now.steps c.args.book.now (tables_in c.args.tables.now) c.in_ok-whole_list.field-0.items c.has_list.ensures.levels c.in_ok-whole_list.ensures)
 
-pub returns-in-Ok-clause-cost : goal.returns-in-Ok-clause-cost
-returns-in-Ok-clause-cost c =
+pub returns-clause-cost : goal.returns-clause-cost
+returns-clause-cost c =
     let book = c.args.book.now in let t = tables_in c.args.tables.now in let n = c.args.tables.now.steps in
-    let P : ℕ → Type 0 = λ n. top_entry n book t ≡ number (cost c.in-Ok.list.items book) in
+    let P : ℕ → Type 0 = λ n. top_entry n book t ≡ number (cost c.in_ok-whole_list.field-0.items book) in
     let v = some_of (top_entry n book t) (c.has_list.ensures.answer.0 c.if-not-has_list.false) in
-    subst P c.requires.sizes.steps_are (v.1 ∙ ap (λ n. number n) (sym (written_costs n book t c.in-Ok.list.items v.0 c.in-Ok.ensures v.1)))
+    subst P c.requires.sizes.steps_are (v.1 ∙ ap (λ n. number n) (sym (written_costs n book t c.in_ok-whole_list.field-0.items v.0 c.in_ok-whole_list.ensures v.1)))
 
 pub returns-then-not-has_list-clause-refused : goal.returns-then-not-has_list-clause-refused
 returns-then-not-has_list-clause-refused c =

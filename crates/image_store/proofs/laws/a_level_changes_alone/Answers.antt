@@ -1,13 +1,5 @@
-use Rattle.std.proofs.Common.{◌≡◌, ℕ, ◌<◌, cond, [], Option, length, set, inl, inr, sym, ◌∙◌, ap, subst, eq-eqb}
-use Rattle.std.proofs.lemmas.Bool.{cases_eq, ne_eqb}
-use Rattle.std.proofs.lemmas.List.{get_or-set_same, get_or-set_other, length-set}
-use Rattle.keepers.specs.Claims.{Images}
-use Rattle.image_store.specs.Shelves.{ShelfState, level_of}
-use Rattle.image_store.specs.StoredImages.{LevelStands, LevelAlone, at_level}
+use Rattle.image_store.proofs.Common.{◌≡◌, ℕ, ◌<◌, inl, inr, length, set, Option, cond, sym, ◌∙◌, ap, subst, eq-eqb, cases_eq, ne_eqb, get_or-set_same, get_or-set_other, length-set, Images, ShelfState, level_of, LevelStands, LevelAlone, at_level}
 use Rattle.image_store.proofs.laws.a_level_changes_alone.Goals as goal
-
-none_there : ShelfState
-none_there = record { pairs = []; room = 0 }
 
 changed : {A : Type 0} (f : ℕ → A) (k j : ℕ) (x : A) → j ≡ k → at_level f k x j ≡ x
 changed f k j x e = ap (λ b. cond b x (f j)) (eq-eqb j k e)

@@ -31,14 +31,14 @@ returns g c counts =
     let fits : FastestTablesFit c.args.steps b = record { few = c.requires.steps; narrow = narrow } in
     let D : Job → Type 0 = λ j. DecidesPlanDisk c.args.steps c.args.book.now (accept j) in
     let is : c.certify_disk-certificate.result ≡ Disk t = c.certify_disk-certificate.ensures.value in
-    let plan = c.in_ok-tables.ensures.sizes.plan in
+    let plan = c.in_ok-tables.ensures.tables.sizes.plan in
     let has : HasText c.args.steps b (Disk t) =
-    subst (HasText c.args.steps b) is (c.certify_disk-certificate.ensures.text c.args.steps b c.is_within_limits.ensures fits c.in_ok-tables.ensures.sizes c.in_ok-tables.ensures.greatest) in
+    subst (HasText c.args.steps b) is (c.certify_disk-certificate.ensures.text c.args.steps b c.is_within_limits.ensures fits c.in_ok-tables.ensures.tables.sizes c.in_ok-tables.ensures.tables.greatest) in
     let steps_are = has.fast.sized.steps_are in
     let shaped : AreDiskShaped t = record { fast = has.fast.shaped; fresh_long = has.fresh_long ∙ sym steps_are; held_long = has.held_long ∙ sym steps_are } in
     record {
       accepted = subst D (sym (c.in_ok-job.ensures.job ∙ (λ i. write (list_pieces (names_of b) (c.new.ensures i) ++ certificate_text.pieces (is i)))))
-          (disk_accepted c.args.steps c.args.book.now b t c.in_ok-list.list.items c.in_ok-book.ensures.found narrow plan.two plan.unlimited (has.fast.sized, shaped) c.in_ok-tables.ensures.greatest c.in_ok-list.ensures.list);
+          (disk_accepted c.args.steps c.args.book.now b t c.in_ok-list.list.items c.in_ok-book.ensures.found narrow plan.two plan.unlimited (has.fast.sized, shaped) c.in_ok-tables.ensures.tables.greatest c.in_ok-list.ensures.list);
       can_be_done = c.in_ok-job.ensures.can_be_done;
       room = c.in_ok-job.ensures.room counts;
       refused = tt;

@@ -32,8 +32,8 @@ returns-in_err-book g c counts =
 pub build-requires-clause-fits : goal.build-requires-clause-fits
 build-requires-clause-fits g c κs inside = record { few = c.requires.steps; narrow = c.in_default.ensures }
 
-pub list_for-requires-clause-fits : goal.list_for-requires-clause-fits
-list_for-requires-clause-fits g c = record { few = c.requires.steps; narrow = c.in_default.ensures }
+pub list_for-requires : goal.list_for-requires
+list_for-requires g c = c.in_ok-tables.ensures
 
 pub returns-in-Some : goal.returns-in-Some
 returns-in-Some g c counts = record { accepted = tt; can_be_done = tt; room = tt; refused = inr (hrevolve_by_room c.args.steps c.args.book.now _ c.in_ok-book.book c.in-Some.level c.in_ok-book.ensures.found c.in-Some.ensures (ap (λ n. out_of_range n 64 9) c.room.ensures)) }

@@ -1,18 +1,6 @@
-use Rattle.std.proofs.Common.{◌≡◌, ◌∙◌, ℕ, [], Err, Contains, IsSome, refl, sym, subst, rules}
-use Rattle.std.proofs.lemmas.Result.{IfErr-at_err, err_from_is_err_and, on_ok_weaker, on_err_weaker}
-use Rattle.plan_types.specs.declared.action.Action.{Action}
-use Rattle.plan_types.specs.declared.action.Action.TheVariants.{Move}
-use Rattle.plan_types.specs.declared.action.Dest.TheVariants.{Level}
-use Rattle.level_book.specs.Moves.{Goes}
-use Rattle.level_book.specs.Rules.{levels_named, rule}
-use Rattle.image_store.specs.Pairs.{pair_at}
-use Rattle.image_store.specs.Shelves.{ShelfState}
+use Rattle.reverse_runner.proofs.Common.{◌≡◌, ℕ, ◌∙◌, refl, sym, subst, [], Err, IsSome, Contains, rules, IfErr-at_err, err_from_is_err_and, on_ok_weaker, on_err_weaker, Action, Move, Level, Goes, levels_named, rule, pair_at, ShelfState, IsKeeping, told_by, calls_to, image_room, rooms_by, holdings_in, Ends}
 use Rattle.reverse_runner.specs.declared.fault.RunFault.{RunFault}
 use Rattle.reverse_runner.specs.declared.fault.RunFault.TheVariants.{Keeper, Damaged, Memory}
-use Rattle.reverse_runner.specs.KeeperCallEffects.{IsKeeping}
-use Rattle.reverse_runner.specs.KeepersSeen.{told_by, calls_to}
-use Rattle.reverse_runner.specs.Rooms.{image_room, rooms_by}
-use Rattle.reverse_runner.specs.Workspaces.{holdings_in, Ends}
 use Rattle.reverse_runner.proofs.AllCalls.{at_most, some_moved}
 use Rattle.reverse_runner.proofs.KeeperCalls.{are_err, are_then, are_wider, passed, ok_not}
 use Rattle.reverse_runner.proofs.LevelPreconditions.{on_level, may_give, copy_keeps_source, called_move_then, moves_held, moves_apart, move_names_copied, copy_names_source, keeping_is_on, damage_moves, moved}

@@ -1,23 +1,6 @@
-use Rattle.std.proofs.Common.{◌≡◌, ◌∙◌, ℕ, List, Option, length, Err, Contains, refl, ap, sym, subst, inr}
-use Rattle.std.proofs.lemmas.Result.{IfErr-at_err, err_from_is_err_and, on_ok_weaker, on_err_weaker}
-use Rattle.plan_types.specs.declared.action.Dest.{Dest}
-use Rattle.plan_types.specs.declared.action.Action.TheVariants.{Copy}
-use Rattle.level_book.specs.Rules.{levels_named}
-use Rattle.sha2.specs.Sha256.{sha256}
-use Rattle.keepers.specs.Claims.{Images}
-use Rattle.rv_pages.specs.Memory.{page_numbers}
-use Rattle.rv_machine.specs.MachineState.{MachineState}
-use Rattle.image_store.specs.Calls.{IsKept}
-use Rattle.image_store.specs.Shelves.{ShelfState, level_of}
+use Rattle.reverse_runner.proofs.Common.{◌≡◌, ℕ, ◌∙◌, refl, ap, sym, subst, inr, List, Option, length, Err, Contains, IfErr-at_err, err_from_is_err_and, on_ok_weaker, on_err_weaker, sha256, Copy, Dest, levels_named, page_numbers, MachineState, Images, IsKept, ShelfState, level_of, Holdings, IsDecoded, IsFetched, Does, IsKeeping, calls_of, Called, told_by, calls_to, image_room, rooms_by, IsDamage, IsNoImage, unit_states, holdings_in, levels_in}
 use Rattle.reverse_runner.specs.declared.fault.RunFault.{RunFault}
 use Rattle.reverse_runner.specs.declared.fault.RunFault.TheVariants.{Keeper, Damaged, Memory}
-use Rattle.reverse_runner.specs.ActionEffects.{Holdings, IsFetched, IsDecoded, Does}
-use Rattle.reverse_runner.specs.KeeperCallEffects.{IsKeeping}
-use Rattle.reverse_runner.specs.KeepersSeen.{told_by, calls_of, calls_to, Called}
-use Rattle.reverse_runner.specs.Rooms.{image_room, rooms_by}
-use Rattle.reverse_runner.specs.SessionOfRun.{IsNoImage, IsDamage}
-use Rattle.reverse_runner.specs.Units.{unit_states}
-use Rattle.reverse_runner.specs.Workspaces.{levels_in, holdings_in}
 use Rattle.reverse_runner.proofs.AllCalls.{called_copy, at_most, counts_none, called_into_work, some_copied}
 use Rattle.reverse_runner.proofs.ImageIntegrity.{held_stands, fetched_image, state_of_run}
 use Rattle.reverse_runner.proofs.KeeperCalls.{are_as, are_err, are_then, are_wider, ok_not, passed}

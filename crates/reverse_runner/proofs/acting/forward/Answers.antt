@@ -1,25 +1,6 @@
-use Rattle.std.proofs.Common.{◌≡◌, ◌∙◌, ◌-◌, ◌*◌, ℕ, List, Err, length, Contains, refl, ap, sym, subst, arith}
-use Rattle.std.proofs.lemmas.Result.{err_from_is_err_and}
-use Rattle.std.specs.Vec.{vec_capacity}
-use Rattle.plan_types.specs.declared.action.Keep.{Keep}
-use Rattle.plan_types.specs.declared.action.Action.TheVariants.{Forward}
-use Rattle.level_book.specs.Configuration.{Configuration}
-use Rattle.level_book.specs.CostFold.{is_write}
-use Rattle.level_book.specs.Moves.{Goes}
-use Rattle.level_book.specs.Rules.{rule, levels_named}
-use Rattle.rv_pages.specs.Memory.{page_numbers}
-use Rattle.rv_machine.specs.MachineState.{MachineState}
-use Rattle.rv_machine.specs.States.{state_number}
-use Rattle.unit_undo.proofs.UndoTrail.{led, leads_there}
-use Rattle.state_image.specs.Image.{image}
-use Rattle.image_store.specs.Calls.{IsKept}
-use Rattle.image_store.specs.Shelves.{ShelfState, level_of}
+use Rattle.reverse_runner.proofs.Common.{◌≡◌, ℕ, ◌*◌, ◌∙◌, refl, ap, sym, subst, arith, List, length, Err, Contains, ◌-◌, err_from_is_err_and, vec_capacity, Forward, Keep, Configuration, is_write, Goes, levels_named, rule, page_numbers, MachineState, state_number, image, IsKept, ShelfState, level_of, led, leads_there, told_by, image_room, calls_keepers, holdings_in, levels_in}
 use Rattle.reverse_runner.specs.declared.fault.RunFault.{RunFault}
 use Rattle.reverse_runner.specs.declared.fault.RunFault.TheVariants.{Damaged, Memory}
-use Rattle.reverse_runner.specs.KeepersSeen.{told_by}
-use Rattle.reverse_runner.specs.Rooms.{image_room}
-use Rattle.reverse_runner.specs.VisitorCalls.{calls_keepers}
-use Rattle.reverse_runner.specs.Workspaces.{levels_in, holdings_in}
 use Rattle.reverse_runner.proofs.AllCalls.{at_most, called_no_keeper, called_stored}
 use Rattle.reverse_runner.proofs.KeeperCalls.{are_ok, are_err, are_still, are_wider, passed}
 use Rattle.reverse_runner.proofs.KeeperFaults.{no_reason, is_safe, keeping_is_whole, keeping_has_reason}

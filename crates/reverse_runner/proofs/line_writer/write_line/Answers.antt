@@ -1,6 +1,4 @@
-use Rattle.std.proofs.Common.{◌≡◌, ◌∙◌, ◌++◌, ◌∷◌, [], List, ℕ, ap, subst}
-use Rattle.std.proofs.lemmas.Result.{on_err_weaker}
-use Rattle.keepers.specs.Claims.{Tells, AddsPrefix}
+use Rattle.reverse_runner.proofs.Common.{◌≡◌, ℕ, ◌∙◌, ap, subst, List, [], ◌∷◌, ◌++◌, on_err_weaker, Tells, AddsPrefix}
 use Rattle.state_image.specs.Line.{line}
 use Rattle.reverse_runner.proofs.line_writer.write_line.Goals as goal
 

@@ -12,16 +12,16 @@ returns-in-Some c =
     let rows = c.args.level.now.tables.now in let book = c.args.level.now.book.now in let k = c.args.level.now.k in let m = c.loop-m.m in
     let rooms : (j : ℕ) → suc j ≡ k → slice_index rows.rooms j ≡ room book j rows.steps = λ j e. c.requires.rooms j (omega arith) in
     let free : m < room book k rows.steps = omega (arith, c.requires.rooms k (omega arith)) in
-    let P : ℕ → Type 0 = λ steps. IsFirst (InHeldColumn c.costs_of-costs.result c.in_ok-columns.columns k m steps) c.in-Some.entry in
-    held_found rows book k c.costs_of-costs.result c.costs_of-costs.ensures rooms m c.in_ok-columns.columns c.in_ok-columns.ensures c.requires.known free c.in-Some.entry c.loop-m.invariant
+    let P : ℕ → Type 0 = λ steps. IsFirst (InHeldColumn c.of-costs.result c.in_ok-columns.columns k m steps) c.in-Some.entry in
+    held_found rows book k c.of-costs.result c.of-costs.ensures rooms m c.in_ok-columns.columns c.in_ok-columns.ensures c.requires.known free c.in-Some.entry c.loop-m.invariant
     (subst P c.steps.ensures c.in-Some.ensures)
 
 pub loop-m-preserved : goal.loop-m-preserved
 loop-m-preserved c =
     let rows = c.args.level.now.tables.now in let book = c.args.level.now.book.now in let k = c.args.level.now.k in let m = c.loop-m.m in
     let rooms : (j : ℕ) → suc j ≡ k → slice_index rows.rooms j ≡ room book j rows.steps = λ j e. c.requires.rooms j (omega arith) in
-    let P : ℕ → Type 0 = λ steps. (q : Place) → InHeldColumn c.costs_of-costs.result c.in_ok-columns.columns k m steps q → ⊥ in
-    held_more rows book k c.costs_of-costs.result c.costs_of-costs.ensures rooms m c.in_ok-columns.columns c.in_ok-columns.ensures c.loop-m.invariant (subst P c.steps.ensures c.in_default.ensures)
+    let P : ℕ → Type 0 = λ steps. (q : Place) → InHeldColumn c.of-costs.result c.in_ok-columns.columns k m steps q → ⊥ in
+    held_more rows book k c.of-costs.result c.of-costs.ensures rooms m c.in_ok-columns.columns c.in_ok-columns.ensures c.loop-m.invariant (subst P c.steps.ensures c.in_default.ensures)
 
 pub returns : goal.returns
 returns c = λ p broken.

@@ -9,7 +9,6 @@ use Rattle.cost_tables.specs.declared.tables.Tables.TheInside.{Inside}
 use Rattle.cost_tables.specs.TableInvariant.{first_in, view_of, AreLevelsOf}
 use Rattle.cost_tables.proofs.CellEntries.{fastest_whole}
 use Rattle.cost_tables.proofs.Views.{tables_seen}
-use Rattle.cost_tables.proofs.LevelExtension.{read_level}
 use Rattle.cost_tables.proofs.FastestLevel.{fastest_greatest, fastest_sizes}
 use Rattle.cost_tables.proofs.tables.Tables.build_fastest.Goals as goal
 
@@ -37,26 +36,20 @@ returns-clause-sizes g c =
 
 pub returns-clause-greatest : goal.returns-clause-greatest
 returns-clause-greatest g c =
-    let book = c.args.book.now in let level = c.level-level.result.now in
+    let book = c.args.book.now in let costs = c.of-costs.result in let are = c.of-costs.ensures in
     let rows = c.in_ok-rows.rows in let base = c.in_ok-base.base.items in
     let made : Inside = record { steps = c.args.steps; rooms = c.push-2.new.self; levels = c.in_ok-levels.levels } in
-    let f : book.forward < 2 ^ 32 = omega arith in
-    let b : book.reverse < 2 ^ 32 = omega arith in
-    let w : level.write < 2 ^ 32 = omega arith in
-    let r : level.read < 2 ^ 32 = omega arith in
-    let write = read_level (λ level. level.write) book.levels 0 0 level c.level-level.ensures in
-    let read = read_level (λ level. level.read) book.levels 0 0 level c.level-level.ensures in
     let Low : ℕ → Type 0 = λ n. n < 2 ^ 32 in
-    let R : ℕ → Type 0 = λ n. AreRows n c.forward-forward.result level.write level.read c.deref.result.now rows.items in
-    let F : ℕ → Type 0 = λ n. AreRows (room book 0 c.args.steps) n level.write level.read c.deref.result.now rows.items in
-    let W : ℕ → Type 0 = λ n. AreRows (room book 0 c.args.steps) book.forward n level.read c.deref.result.now rows.items in
+    let R : ℕ → Type 0 = λ n. AreRows n costs.forward costs.write costs.read c.deref.result.now rows.items in
+    let F : ℕ → Type 0 = λ n. AreRows (room book 0 c.args.steps) n costs.write costs.read c.deref.result.now rows.items in
+    let W : ℕ → Type 0 = λ n. AreRows (room book 0 c.args.steps) book.forward n costs.read c.deref.result.now rows.items in
     let D : ℕ → Type 0 = λ n. AreRows (room book 0 c.args.steps) book.forward (write_cost book 0) n c.deref.result.now rows.items in
     let B : List ℕ → Type 0 = λ base. AreRows (room book 0 c.args.steps) book.forward (write_cost book 0) (read_cost book 0) base rows.items in
-    let is = subst B c.deref.ensures.value (subst D (sym read) (subst W (sym write) (subst F c.forward-forward.ensures (subst R c.room-room.ensures c.in_ok-rows.ensures.rows)))) in
+    let is = subst B c.deref.ensures.value (subst D are.read (subst W are.write (subst F are.forward (subst R c.room-room.ensures c.in_ok-rows.ensures.rows)))) in
     let count = c.in_ok-rows.ensures.wide ∙ ap length c.deref.ensures.value ∙ c.in_ok-base.ensures.count in
     let levels = c.in_ok-push.ensures.items ∙ ap (λ (levels : List (Vec Row Global)). levels ++ rows ∷ []) c.new-levels.ensures.items in
     let P : Tables → Type 0 = λ t. IsGreatest c.args.steps (fastest book) t in
     let From : List (Vec Row Global) → Type 0 = λ levels. AreLevelsOf levels c.in_ok-levels.levels.items in
     subst P (sym (tables_seen made c.push.new.self.items (subst From c.deref-2.ensures.value c.in_ok-levels.ensures)))
     (fastest_greatest c.args.steps book c.push.new.self.items rows base levels c.requires.fits.few count is
-    (λ q lt. c.in_ok-base.ensures.value q lt ∙ (λ i. first_in (c.forward-forward.ensures i + c.reverse.ensures i) q)) f b (subst Low (sym write) w) (subst Low (sym read) r))
+    (λ q lt. c.in_ok-base.ensures.value q lt ∙ (λ i. first_in (are.forward i + are.reverse i) q)) (subst Low are.forward are.cheap.forward) (subst Low are.reverse are.cheap.reverse) (subst Low are.write are.cheap.write) (subst Low are.read are.cheap.read))

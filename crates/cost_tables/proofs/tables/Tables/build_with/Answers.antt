@@ -10,7 +10,7 @@ use Rattle.cost_tables.specs.TableInvariant.{AreBuilt, rows_at, fresh_at, held_a
 use Rattle.cost_tables.proofs.CellEntries.{whole_of}
 use Rattle.cost_tables.proofs.Views.{tables_seen}
 use Rattle.cost_tables.proofs.AllLevels.{greatest}
-use Rattle.cost_tables.proofs.LevelExtension.{read_level, built_none, built_more, modest}
+use Rattle.cost_tables.proofs.LevelExtension.{built_none, built_more, modest}
 use Rattle.cost_tables.proofs.tables.Tables.build_with.Goals as goal
 
 pub invariant_of-result : goal.invariant_of-result
@@ -25,17 +25,8 @@ invariant_of-result g c =
     let P : ℕ → Type 0 = λ room. All (IsRow room) (rows_at c.loop-k.levels.items k) in
     subst P (sym (are.rooms_are k known)) (are.shapes k known))
 
-pub returns-clause-sizes : goal.returns-clause-sizes
-returns-clause-sizes g c =
-    let are = c.loop-k.invariant in
-    record {
-      steps_are = refl;
-      level_count = omega (arith, are.room_count);
-      rooms_are = λ k lt. are.rooms_are k (omega arith);
-    }
-
-pub returns-clause-greatest : goal.returns-clause-greatest
-returns-clause-greatest g c =
+pub returns : goal.returns
+returns g c =
     let are = c.loop-k.invariant in
     let book = c.args.book.now in
     let made : Inside = record { steps = c.args.steps; rooms = c.loop-k.rooms; levels = c.in_ok-levels.levels } in
@@ -45,15 +36,23 @@ returns-clause-greatest g c =
     let b : book.reverse < 2 ^ 32 = omega arith in
     let From : List (Vec Row Global) → Type 0 = λ levels. AreLevelsOf levels c.in_ok-levels.levels.items in
     let P : Tables → Type 0 = λ t. IsGreatest c.args.steps book t in
-    subst P (sym (tables_seen made c.loop-k.levels.items (subst From c.deref-2.ensures.value c.in_ok-levels.ensures)))
-    (greatest c.args.steps book (fresh_at c.loop-k.levels.items) (held_at c.loop-k.levels.items) (modest c.args.steps book c.loop-k.k c.loop-k.levels.items c.loop-k.rooms.items c.loop-k.base.items are all few f b)
-    (λ k known. are.are_levels k (omega arith)))
+    record {
+      fits = c.requires.fits;
+      sizes = record {
+        steps_are = refl;
+        level_count = omega (arith, are.room_count);
+        rooms_are = λ k lt. are.rooms_are k (omega arith);
+      };
+      greatest = subst P (sym (tables_seen made c.loop-k.levels.items (subst From c.deref-2.ensures.value c.in_ok-levels.ensures)))
+          (greatest c.args.steps book (fresh_at c.loop-k.levels.items) (held_at c.loop-k.levels.items) (modest c.args.steps book c.loop-k.k c.loop-k.levels.items c.loop-k.rooms.items c.loop-k.base.items are all few f b)
+          (λ k known. are.are_levels k (omega arith)));
+    }
 
 pub loop-k-init : goal.loop-k-init
 loop-k-init g c =
     let steps = c.args.steps in let book = c.args.book.now in let base = c.in_ok-base.base.items in
     let value : (r : ℕ) → r < steps → get_or base r 0 ≡ first_in (book.forward + book.reverse) r = λ r lt.
-    c.in_ok-base.ensures.value r lt ∙ (λ t. first_in (c.forward-forward.ensures t + c.reverse.ensures t) r) in
+    c.in_ok-base.ensures.value r lt ∙ (λ t. first_in (c.forward.ensures t + c.reverse.ensures t) r) in
     let L : List (Vec Row Global) → Type 0 = λ levels. AreBuilt steps book 0 levels c.new-rooms.result.items base in
     let R : List ℕ → Type 0 = λ rooms. AreBuilt steps book 0 [] rooms base in
     subst L (sym c.new-levels.ensures.items) (subst R (sym c.new-rooms.ensures.items) (built_none steps book base c.in_ok-base.ensures.count c.in_ok-base.ensures.low value))
@@ -78,20 +77,15 @@ level_rows-requires-clause-room g c = λ κs h.
 
 pub loop-k-preserved : goal.loop-k-preserved
 loop-k-preserved g c =
-    let book = c.args.book.now in let k = c.loop-k.k in let level = c.level-level.result.now in
+    let book = c.args.book.now in let k = c.loop-k.k in let costs = c.of.result in let are = c.of.ensures in
     let rows = c.in_ok-rows.rows in
-    let w : level.write < 2 ^ 32 = omega arith in
-    let r : level.read < 2 ^ 32 = omega arith in
-    let at = c.level-level.ensures in
-    let write = read_level (λ level. level.write) book.levels k 0 level at in
-    let read = read_level (λ level. level.read) book.levels k 0 level at in
     let wide = c.room-room.ensures in
-    let R : ℕ → Type 0 = λ n. AreRows n c.forward-forward.result level.write level.read c.deref.result.now rows.items in
-    let F : ℕ → Type 0 = λ n. AreRows (room book k c.args.steps) n level.write level.read c.deref.result.now rows.items in
-    let W : ℕ → Type 0 = λ n. AreRows (room book k c.args.steps) book.forward n level.read c.deref.result.now rows.items in
+    let R : ℕ → Type 0 = λ n. AreRows n costs.forward costs.write costs.read c.deref.result.now rows.items in
+    let F : ℕ → Type 0 = λ n. AreRows (room book k c.args.steps) n costs.write costs.read c.deref.result.now rows.items in
+    let W : ℕ → Type 0 = λ n. AreRows (room book k c.args.steps) book.forward n costs.read c.deref.result.now rows.items in
     let D : ℕ → Type 0 = λ n. AreRows (room book k c.args.steps) book.forward (write_cost book k) n c.deref.result.now rows.items in
     let B : List ℕ → Type 0 = λ base. AreRows (room book k c.args.steps) book.forward (write_cost book k) (read_cost book k) base rows.items in
-    let is = subst B c.deref.ensures.value (subst D (sym read) (subst W (sym write) (subst F c.forward-forward.ensures (subst R wide c.in_ok-rows.ensures.rows)))) in
+    let is = subst B c.deref.ensures.value (subst D are.read (subst W are.write (subst F are.forward (subst R wide c.in_ok-rows.ensures.rows)))) in
     let count = c.in_ok-rows.ensures.wide ∙ ap length c.deref.ensures.value ∙ c.loop-k.invariant.base_count in
     let same = c.deref-in-loop-k.ensures.value in
     let P : List (Vec Row Global) → Type 0 = λ levels. AreBuilt c.args.steps book (k + 1) levels c.push-in-loop-k.new.self.items c.in_ok-base-2.base.items in
@@ -100,4 +94,4 @@ loop-k-preserved g c =
     let W' : ℕ → Type 0 = λ n. n < 2 ^ 32 in
     subst P (sym c.in_ok-push.ensures.items)
     (built_more c.args.steps book k c.loop-k.levels.items c.loop-k.rooms.items c.loop-k.base.items rows c.loop-k.invariant c.room-room.result c.push-in-loop-k.new.self.items c.in_ok-base-2.base.items c.in_ok-push-2.ensures.items wide count is
-    (c.in_ok-base-2.ensures.count ∙ ap length same ∙ count) c.in_ok-base-2.ensures.low (subst V wide (subst C same c.in_ok-base-2.ensures.value)) (subst W' (sym write) w) (subst W' (sym read) r))
+    (c.in_ok-base-2.ensures.count ∙ ap length same ∙ count) c.in_ok-base-2.ensures.low (subst V wide (subst C same c.in_ok-base-2.ensures.value)) (subst W' are.write are.cheap.write) (subst W' are.read are.cheap.read))

@@ -28,7 +28,7 @@ returns-in-Some-clause-moved g c =
     let x = g.N.Line.told c.args.line.now in
     let y = g.N.Line.told c.loop-end.line in
     let all =
-    at_found s t c.loop-end.end look.result.0 c.in-Some.at x y look.result.1 c.in-Some.hit look.new.self go c.loop-end.invariant.way c.in-Some.is look.ensures.ends look.ensures.near look.ensures.stays c.go_to.ensures.goes c.go_to.ensures.known in
+    at_found s t c.loop-end.end look.result.0 c.in-Some.at x y look.result.1 c.in-Some.hit look.new.self go c.loop-end.invariant.way c.in-Some.is look.ensures.ends look.ensures.stays c.go_to.ensures.goes c.go_to.ensures.known in
     subst (λ (halt : Halt). Tells x y (λ a b. IsMoved s (record t { session = go }) motion.ContinueBack halt [] × Does s (record t { session = go }) [] a b)) (sym c.halt_of_hit.ensures) all
 
 pub returns-in_err-interrupted-clause-partly : goal.returns-in_err-interrupted-clause-partly

@@ -1,10 +1,7 @@
-use Rattle.std.proofs.Common.{rules, ◌≡◌, ◌≢◌, ◌≤◌, ◌∙◌, sym, ap, subst}
+use Rattle.image_store.proofs.Common.{◌≡◌, ◌≢◌, sym, ◌∙◌, ap, subst, ◌≤◌, rules, sha256, IsGot}
 use Rattle.std.specs.Vec.{vec_len}
-use Rattle.sha2.specs.Sha256.{sha256}
 use Rattle.image_store.specs.declared.shelf.Kept.{Kept}
-use Rattle.image_store.specs.Calls.{IsGot}
-use Rattle.image_store.proofs.KeeperEffects.{remains_as}
-use Rattle.image_store.proofs.LevelImages.{got_is}
+use Rattle.image_store.proofs.LevelImages.{got_is, remains_as}
 use Rattle.image_store.proofs.shelf.Shelf.fetch.Goals as goal
 
 pub returns-then-ne : goal.returns-then-ne

@@ -1,18 +1,10 @@
-use Rattle.std.proofs.Common.{◌≡◌, ◌<◌, ◌+◌, ◌-◌, ℕ, List, Option, None, Some, length, arith, ◌∙◌, sym, ap, subst, get_or, set}
-use Rattle.std.proofs.lemmas.List.{length-set}
+use Rattle.image_store.proofs.Common.{◌≡◌, ℕ, ◌<◌, List, length, set, Option, Some, None, sym, ◌∙◌, ap, subst, ◌+◌, get_or, arith, ◌-◌, length-set, sha256, kept_in, with_pair, pair_at, IsFreeSlot, held, ShelfState, pairs_in, SharesOut, IsShelf, KeepsAs, IsToldAnd, Alone, LevelStands, LevelAlone}
 use Rattle.std.specs.FinMap as finmap
 use Rattle.image_store.specs.declared.shelf.Kept.{Kept}
 use Rattle.image_store.specs.declared.shelf.Fingerprint.{Fingerprint}
-use Rattle.image_store.specs.Pairs.{pair_at, held, IsFreeSlot}
-use Rattle.image_store.specs.SlotAllocation.{SharesOut, IsShelf, pairs_in}
-use Rattle.image_store.specs.Shelves.{ShelfState}
-use Rattle.image_store.specs.StoredImages.{LevelStands, LevelAlone, KeepsAs, Alone, IsToldAnd}
-use Rattle.sha2.specs.Sha256.{sha256}
-use Rattle.image_store.specs.Calls.{kept_in, with_pair}
 use Rattle.image_store.proofs.SlotAllocation.{shares_more, last_free}
 use Rattle.image_store.proofs.Places.{pairs_more}
-use Rattle.image_store.proofs.KeeperEffects.{remains_as}
-use Rattle.image_store.proofs.LevelImages.{level_more, level_alone_more}
+use Rattle.image_store.proofs.LevelImages.{level_more, level_alone_more, remains_as}
 use Rattle.image_store.proofs.shelf.Shelf.keep.Goals as goal
 
 -- where fewer pairs are held than there is room for, a slot is free

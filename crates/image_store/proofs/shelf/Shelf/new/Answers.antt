@@ -1,6 +1,5 @@
-use Rattle.std.proofs.Common.{◌≡◌, ◌+◌, List, Option, length, replicate, sym, ap, subst, ◌∙◌, arith}
+use Rattle.image_store.proofs.Common.{◌≡◌, List, length, Option, sym, ◌∙◌, ap, subst, ◌+◌, arith, replicate, pairs_in, SharesOut}
 use Rattle.image_store.specs.declared.shelf.Kept.{Kept}
-use Rattle.image_store.specs.SlotAllocation.{SharesOut, pairs_in}
 use Rattle.image_store.proofs.SlotAllocation.{shares_all}
 use Rattle.image_store.proofs.Places.{pairs_none}
 use Rattle.image_store.proofs.shelf.Shelf.new.Goals as goal

@@ -1,4 +1,4 @@
-use Rattle.std.proofs.Common.{◌≡◌, ℕ, ◌<◌, ◌-◌, List, length, get_or}
+use Rattle.image_store.proofs.Common.{◌≡◌, ℕ, ◌<◌, List, length, get_or, ◌-◌}
 use Rattle.image_store.proofs.shelf.Shelf.new.Given as goal
 
 -- so far the slots stand from the last one down

@@ -1,17 +1,10 @@
-use Rattle.std.proofs.Common.{◌≡◌, ◌<◌, ◌+◌, ◌^◌, ℕ, List, Option, Some, length, ◌∙◌, sym, ap, subst, set}
-use Rattle.std.proofs.lemmas.List.{length-set}
+use Rattle.image_store.proofs.Common.{◌≡◌, ℕ, ◌<◌, List, length, set, Option, Some, sym, ◌∙◌, ap, subst, ◌+◌, ◌^◌, length-set, without_pair, IsFreed, pair_at, ShelfState, pairs_in, SharesOut, IsShelf, KeepsAs, IsToldAnd, Alone, LevelStands, LevelAlone}
 use Rattle.image_store.specs.declared.shelf.Kept.{Kept}
 use Rattle.image_store.specs.declared.shelf.Fingerprint.{Fingerprint}
 use Rattle.std.specs.FinMap as finmap
-use Rattle.image_store.specs.Calls.{without_pair, IsFreed}
-use Rattle.image_store.specs.Pairs.{pair_at}
-use Rattle.image_store.specs.SlotAllocation.{SharesOut, IsShelf, pairs_in}
-use Rattle.image_store.specs.Shelves.{ShelfState}
-use Rattle.image_store.specs.StoredImages.{LevelStands, LevelAlone, KeepsAs, Alone, IsToldAnd}
 use Rattle.image_store.proofs.SlotAllocation.{shares_less}
 use Rattle.image_store.proofs.Places.{pairs_less}
-use Rattle.image_store.proofs.KeeperEffects.{remains_as}
-use Rattle.image_store.proofs.LevelImages.{level_less, level_alone_less}
+use Rattle.image_store.proofs.LevelImages.{level_less, level_alone_less, remains_as}
 use Rattle.image_store.proofs.shelf.Shelf.release.Goals as goal
 
 shelf_less : (prints : List Fingerprint) (places free : List ℕ) (count n : ℕ) (kept : Kept) → IsShelf prints places free count → pair_at (pairs_in prints places) n ≡ Some kept →

@@ -1,8 +1,5 @@
-use Rattle.std.proofs.Common.{◌≡◌, ◌++◌, ◌∷◌, [], ◌<◌, ◌≤◌, List, length, take, Some, sym, ◌∙◌, ap, subst, arith}
-use Rattle.level_book.specs.BookCosts.{slots_of, room}
+use Rattle.image_store.proofs.Common.{◌≡◌, ◌<◌, List, [], length, take, Some, sym, ◌∙◌, ap, subst, ◌≤◌, ◌++◌, ◌∷◌, arith, slots_of, room, ShelfState, level_of, no_pairs, no_pairs_on, LevelStands, LevelAlone}
 use Rattle.std.specs.FinMap as finmap
-use Rattle.image_store.specs.Shelves.{ShelfState, level_of, no_pairs, no_pairs_on}
-use Rattle.image_store.specs.StoredImages.{LevelStands, LevelAlone}
 use Rattle.image_store.proofs.Levels.{made_more, made_all, stands_empty, alone_empty}
 use Rattle.image_store.proofs.store.Store.begin.Goals as goal
 

@@ -33,7 +33,7 @@ planned_levels-requires-clause-counted c =
     let book = c.args.book.now in
     let list = c.in_ok-revolve.revolve in
     traffic_counted list c.deref.result.now (short steps book list c.in_ok-revolve.ensures.list c.in_ok-revolve.ensures.plan c.requires)
-    (counts steps c.total_room.result book list c.in-Ok.traffic.items c.deref.result.now c.total_room.ensures c.in_ok-revolve.ensures.list c.deref.ensures.value c.in-Ok.ensures)
+    (counts steps c.total_room.result book list c.in_ok-traffic.traffic.items c.deref.result.now c.total_room.ensures c.in_ok-revolve.ensures.list c.deref.ensures.value c.in_ok-traffic.ensures)
 
 pub savings_by-requires-clause-counted : goal.savings_by-requires-clause-counted
 savings_by-requires-clause-counted c =
@@ -41,7 +41,7 @@ savings_by-requires-clause-counted c =
     let book = c.args.book.now in
     let list = c.in_ok-revolve.revolve in
     traffic_counted list c.deref-2.result.now (short steps book list c.in_ok-revolve.ensures.list c.in_ok-revolve.ensures.plan c.requires)
-    (counts steps c.total_room.result book list c.in-Ok.traffic.items c.deref-2.result.now c.total_room.ensures c.in_ok-revolve.ensures.list c.deref-2.ensures.value c.in-Ok.ensures)
+    (counts steps c.total_room.result book list c.in_ok-traffic.traffic.items c.deref-2.result.now c.total_room.ensures c.in_ok-revolve.ensures.list c.deref-2.ensures.value c.in_ok-traffic.ensures)
 
 pub invariant_of-result : goal.invariant_of-result
 invariant_of-result c =
@@ -49,9 +49,9 @@ invariant_of-result c =
     let book = c.args.book.now in
     let list = c.in_ok-revolve.revolve in
     let levels = two_levels book.levels (omega (arith, c.levels.ensures.value, c.if-levels-ne2.false)) in
-    let of = counts steps c.total_room.result book list c.in-Ok.traffic.items c.deref-2.result.now c.total_room.ensures c.in_ok-revolve.ensures.list c.deref-2.ensures.value c.in-Ok.ensures in
-    let saves = c.in-Ok-savings_by.ensures list levels.0 levels.1 levels.2 of in
-    let each = c.in-Ok-planned_levels.ensures.each ∙ ap length (c.deref.ensures.value ∙ sym c.deref-2.ensures.value) ∙ of.many in
+    let of = counts steps c.total_room.result book list c.in_ok-traffic.traffic.items c.deref-2.result.now c.total_room.ensures c.in_ok-revolve.ensures.list c.deref-2.ensures.value c.in_ok-traffic.ensures in
+    let saves = c.in_ok-savings.ensures list levels.0 levels.1 levels.2 of in
+    let each = c.in_ok-levels.ensures.each ∙ ap length (c.deref.ensures.value ∙ sym c.deref-2.ensures.value) ∙ of.many in
     (saves.count ∙ sym each, omega (arith, short steps book list c.in_ok-revolve.ensures.list c.in_ok-revolve.ensures.plan c.requires))
 
 pub returns-clause-list : goal.returns-clause-list
@@ -59,9 +59,9 @@ returns-clause-list c =
     let steps = c.args.steps in
     let book = c.args.book.now in
     let list = c.in_ok-revolve.revolve in
-    let of = counts steps c.total_room.result book list c.in-Ok.traffic.items c.deref.result.now c.total_room.ensures c.in_ok-revolve.ensures.list c.deref.ensures.value c.in-Ok.ensures in
-    plan_list steps book c.in-Ok-planned_levels.levels.items c.in-Ok-savings_by.savings.items list c.in_ok-revolve.ensures.list (omega (arith, c.levels.ensures.value, c.if-levels-ne2.false)) c.in_ok-revolve.ensures.plan
-    (λ fast slow two. c.in-Ok-planned_levels.ensures.planned list fast slow two of)
+    let of = counts steps c.total_room.result book list c.in_ok-traffic.traffic.items c.deref.result.now c.total_room.ensures c.in_ok-revolve.ensures.list c.deref.ensures.value c.in_ok-traffic.ensures in
+    plan_list steps book c.in_ok-levels.levels.items c.in_ok-savings.savings.items list c.in_ok-revolve.ensures.list (omega (arith, c.levels.ensures.value, c.if-levels-ne2.false)) c.in_ok-revolve.ensures.plan
+    (λ fast slow two. c.in_ok-levels.ensures.planned list fast slow two of)
 
 pub returns-clause-class : goal.returns-clause-class
 returns-clause-class c = planned_in_class c.args.steps c.args.book.now _ (returns-clause-list c)
@@ -71,8 +71,8 @@ returns-clause-places c =
     let steps = c.args.steps in
     let book = c.args.book.now in
     let list = c.in_ok-revolve.revolve in
-    let of = counts steps c.total_room.result book list c.in-Ok.traffic.items c.deref.result.now c.total_room.ensures c.in_ok-revolve.ensures.list c.deref.ensures.value c.in-Ok.ensures in
-    let of_too = counts steps c.total_room.result book list c.in-Ok.traffic.items c.deref-2.result.now c.total_room.ensures c.in_ok-revolve.ensures.list c.deref-2.ensures.value c.in-Ok.ensures in
-    plan_places steps book c.in-Ok-planned_levels.levels.items c.in-Ok-savings_by.savings.items list c.in_ok-revolve.ensures.list (omega (arith, c.levels.ensures.value, c.if-levels-ne2.false)) c.in_ok-revolve.ensures.plan
-    (λ fast slow two. c.in-Ok-planned_levels.ensures.planned list fast slow two of) (c.in-Ok-planned_levels.ensures.each ∙ of.many)
-    (λ fast slow two. c.in-Ok-savings_by.ensures list fast slow two of_too)
+    let of = counts steps c.total_room.result book list c.in_ok-traffic.traffic.items c.deref.result.now c.total_room.ensures c.in_ok-revolve.ensures.list c.deref.ensures.value c.in_ok-traffic.ensures in
+    let of_too = counts steps c.total_room.result book list c.in_ok-traffic.traffic.items c.deref-2.result.now c.total_room.ensures c.in_ok-revolve.ensures.list c.deref-2.ensures.value c.in_ok-traffic.ensures in
+    plan_places steps book c.in_ok-levels.levels.items c.in_ok-savings.savings.items list c.in_ok-revolve.ensures.list (omega (arith, c.levels.ensures.value, c.if-levels-ne2.false)) c.in_ok-revolve.ensures.plan
+    (λ fast slow two. c.in_ok-levels.ensures.planned list fast slow two of) (c.in_ok-levels.ensures.each ∙ of.many)
+    (λ fast slow two. c.in_ok-savings.ensures list fast slow two of_too)

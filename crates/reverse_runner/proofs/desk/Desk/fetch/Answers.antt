@@ -1,6 +1,5 @@
-use Rattle.std.proofs.Common.{set, Err, refl, sym, ◌∙◌, ap}
+use Rattle.reverse_runner.proofs.Common.{◌∙◌, refl, ap, sym, set, Err, answer_on}
 use Rattle.reverse_runner.specs.declared.fault.RunFault.{RunFault}
-use Rattle.reverse_runner.specs.Desks.{answer_on}
 use Rattle.reverse_runner.proofs.OneKeeper.{was_there}
 use Rattle.reverse_runner.proofs.DeskLaws.{fetch_gives}
 use Rattle.reverse_runner.proofs.desk.Desk.fetch.Goals as goal

@@ -1,8 +1,5 @@
-use Rattle.std.proofs.Common.{ℕ, set, List, Err, refl, sym, ◌∙◌, ap, subst}
-use Rattle.image_store.specs.Shelves.{level_of}
-use Rattle.image_store.specs.StoreCalls.{KeepsPair}
+use Rattle.reverse_runner.proofs.Common.{ℕ, ◌∙◌, refl, ap, sym, subst, List, set, Err, level_of, KeepsPair, answer_on}
 use Rattle.reverse_runner.specs.declared.fault.RunFault.{RunFault}
-use Rattle.reverse_runner.specs.Desks.{answer_on}
 use Rattle.reverse_runner.proofs.OneKeeper.{was_there}
 use Rattle.reverse_runner.proofs.DeskLaws.{keep_gives}
 use Rattle.reverse_runner.proofs.desk.Desk.keep.Goals as goal

@@ -1,6 +1,4 @@
-use Rattle.std.proofs.Common.{sym, subst}
-use Rattle.rv_machine.specs.MachineState.{MachineState}
-use Rattle.unit_digests.specs.Digests.{states_of, AreDigests}
+use Rattle.reverse_runner.proofs.Common.{sym, subst, MachineState, states_of, AreDigests}
 use Rattle.reverse_runner.proofs.TapeDigests.{known_here}
 use Rattle.reverse_runner.proofs.known_state.KnownState.back.Goals as goal
 

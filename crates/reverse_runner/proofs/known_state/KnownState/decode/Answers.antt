@@ -1,6 +1,4 @@
-use Rattle.std.proofs.Common.{◌≡◌, ◌↔◌, None, Some, Ok, Err, subst}
-use Rattle.rv_machine.specs.MachineState.{MachineState}
-use Rattle.rv_pages.specs.Memory.{page_numbers}
+use Rattle.reverse_runner.proofs.Common.{◌≡◌, subst, Some, None, Ok, Err, ◌↔◌, page_numbers, MachineState}
 use Rattle.state_image.specs.ImageForm.{first_wrong, first_unmapped}
 use Rattle.state_image.specs.declared.fault.ImageFault.{ImageFault}
 use Rattle.reverse_runner.proofs.known_state.KnownState.decode.Goals as goal

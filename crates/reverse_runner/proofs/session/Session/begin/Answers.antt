@@ -1,14 +1,6 @@
-use Rattle.std.proofs.Common.{List, sym, subst, ap, arith}
-use Rattle.unit_undo.specs.UndoState.{UndoState}
-use Rattle.reverse_runner.specs.Workspaces.{HasUnits, tape_in}
+use Rattle.reverse_runner.proofs.Common.{ap, sym, subst, arith, List, slots_of, start, MachineState, ShelfState, UndoState, IsLaidOut, HoldingsStandAt, AreAlone, image_room, HasUnits, tape_in}
 use Rattle.schedule_rules.specs.Situation.{Situation}
-use Rattle.rv_machine.specs.MachineState.{MachineState}
-use Rattle.level_book.specs.BookCosts.{slots_of}
-use Rattle.level_book.specs.Configuration.{start}
-use Rattle.image_store.specs.Shelves.{ShelfState}
-use Rattle.reverse_runner.specs.HoldingsOfRun.{IsLaidOut, HoldingsStandAt, AreAlone}
 use Rattle.reverse_runner.proofs.RoomLeft.{begun_is_laid_out, begun_stands, begun_is_alone}
-use Rattle.reverse_runner.specs.Rooms.{image_room}
 use Rattle.reverse_runner.proofs.Rooms.{begun_short, short_same}
 use Rattle.reverse_runner.proofs.session.Session.begin.Goals as goal
 

@@ -1,14 +1,5 @@
-use Rattle.std.proofs.Common.{ℕ, List, length, sym, subst}
-use Rattle.std.proofs.lemmas.Result.{on_ok_weaker}
-use Rattle.level_book.specs.declared.book.Slots.{Slots}
-use Rattle.reverse_runner.specs.HoldingsOfRun.{IsLaidOut, AreAlone}
-use Rattle.reverse_runner.specs.SessionState.{SessionState, levels_of, holdings_of}
-use Rattle.reverse_runner.specs.SessionOfRun.{StandsAt}
-use Rattle.reverse_runner.specs.KeepersSeen.{told_by}
-use Rattle.reverse_runner.specs.Workspaces.{HasUnits, holdings_in}
-use Rattle.reverse_runner.specs.ActionOutcome.{IsSafe}
+use Rattle.reverse_runner.proofs.Common.{ℕ, sym, subst, List, length, on_ok_weaker, Slots, IsSafe, IsLaidOut, AreAlone, told_by, AreShort, rooms_by, StandsAt, holdings_of, SessionState, levels_of, HasUnits, holdings_in}
 use Rattle.reverse_runner.proofs.HoldingsInvariant.{laid_out_after, alone_after, stand_after}
-use Rattle.reverse_runner.specs.Rooms.{rooms_by, AreShort}
 use Rattle.reverse_runner.proofs.Rooms.{same_room}
 use Rattle.reverse_runner.proofs.session.Session.perform.Goals as goal
 

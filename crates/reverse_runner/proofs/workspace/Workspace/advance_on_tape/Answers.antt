@@ -1,10 +1,5 @@
 -- The undo list is cleared, and then watches the steps.
-use Rattle.std.proofs.Common.{◌∙◌, ap, sym, refl, subst, arith, List, Option, ℕ}
-use Rattle.rv_machine.specs.MachineState.{MachineState}
-use Rattle.unit_undo.specs.UndoState.{UndoState}
-use Rattle.unit_undo.specs.UndoTrail.{LeadsBack, states_below, IsMadeFor}
-use Rattle.unit_undo.proofs.UndoTrail.{can_note, noted, led}
-use Rattle.unit_digests.specs.Digests.{states_of, AreDigests}
+use Rattle.reverse_runner.proofs.Common.{ℕ, ◌∙◌, refl, ap, sym, subst, arith, List, Option, MachineState, led, can_note, noted, UndoState, states_below, LeadsBack, IsMadeFor, states_of, AreDigests}
 use Rattle.reverse_runner.proofs.TapeDigests.{known_on_tape}
 use Rattle.reverse_runner.proofs.workspace.Workspace.advance_on_tape.Goals as goal
 

@@ -1,10 +1,4 @@
-use Rattle.std.proofs.Common.{◌≡◌, ℕ, suc, ◌+◌, List, [], ◌∷◌, ◌++◌, length, sym, ap, subst, ◌∙◌, append_assoc, arith, rules, Option}
-use Rattle.unit_undo.specs.UndoState.{UndoState}
-use Rattle.unit_undo.specs.UndoTrail.{led_back}
-use Rattle.unit_undo.proofs.UndoTrail.{gone, gone_states}
-use Rattle.reverse_runner.specs.StateOrder.{numbers_from}
-use Rattle.reverse_runner.specs.VisitorCalls.{MissesOne}
-use Rattle.unit_digests.specs.Digests.{states_of, AreDigests}
+use Rattle.reverse_runner.proofs.Common.{◌≡◌, ℕ, ◌+◌, ◌∙◌, ap, sym, subst, arith, List, Option, [], length, ◌∷◌, suc, ◌++◌, rules, append_assoc, gone_states, gone, UndoState, led_back, states_of, AreDigests, numbers_from, MissesOne}
 use Rattle.reverse_runner.proofs.TapeDigests.{known_behind}
 use Rattle.reverse_runner.proofs.SessionTape.{gets_more, misses_next}
 use Rattle.reverse_runner.proofs.workspace.Workspace.hand_back.Goals as goal

@@ -1,10 +1,4 @@
-use Rattle.std.proofs.Common.{◌≡◌, ◌<◌, ◌+◌, ◌^◌, ◌++◌, ℕ, List, length}
-use Rattle.rv_machine.specs.MachineState.{MachineState}
-use Rattle.unit_undo.specs.UndoTrail.{LeadsBack, led_back}
-use Rattle.reverse_runner.specs.StateOrder.{numbers_from}
-use Rattle.unit_digests.specs.Digests.{states_of, AreDigests}
-use Rattle.reverse_runner.specs.VisitorCalls.{GetsAll}
-use Rattle.reverse_runner.specs.SessionState.{SamePages}
+use Rattle.reverse_runner.proofs.Common.{◌≡◌, ℕ, ◌+◌, List, length, ◌<◌, ◌^◌, ◌++◌, MachineState, LeadsBack, led_back, states_of, AreDigests, SamePages, numbers_from, GetsAll}
 use Rattle.reverse_runner.proofs.workspace.Workspace.hand_back.Given as goal
 
 -- the visitor got some of the states, and those that are left are the others

@@ -5,7 +5,7 @@ use Rattle.rv_machine.specs.StateChanges.{addresses}
 use Rattle.rv_machine.specs.SystemCalls.{are_mapped}
 use Rattle.run_timeline.specs.Ranges.{writes_in}
 use Rattle.run_timeline.proofs.Overlap.{written_first, none_either, some_or_none, then_some_is}
-use Rattle.run_timeline.proofs.stops.first_written.Goals as goal
+use Rattle.run_timeline.proofs.ranges.first_written.Goals as goal
 
 pub returns-in_err-first : goal.returns-in_err-first
 returns-in_err-first c =

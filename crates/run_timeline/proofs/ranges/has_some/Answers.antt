@@ -1,8 +1,8 @@
 use Rattle.std.proofs.Common.{◌<◌, ◌+◌, ◌-◌, ◌%◌, sym, ◌∙◌, arith, inl, inr}
 use Rattle.std.proofs.lemmas.Bool.{lt-ltb, le-ltb, cases_lt}
 use Rattle.run_timeline.proofs.Overlap.{empty_has_none, none_has_none, start_among, no_other_way}
-use Rattle.run_timeline.proofs.stops.has_some.Goals as goal
-use Rattle.run_timeline.proofs.stops.has_some.Goals.{then-span-eq0-via-then-span-eq0, then-span-eq0-via-else-span-eq0+then-range-eq0}
+use Rattle.run_timeline.proofs.ranges.has_some.Goals as goal
+use Rattle.run_timeline.proofs.ranges.has_some.Goals.{then-span-eq0-via-then-span-eq0, then-span-eq0-via-else-span-eq0+then-range-eq0}
 
 pub returns-else-span-range : goal.returns-else-span-range
 returns-else-span-range c =
