@@ -11,6 +11,7 @@
 #![tactic(auto)]
 
 ghost use Rattle.std.specs.Prelude.{◌≡◌, ◌<◌};
+ghost use Rattle.rv_machine.specs.Prelude.{IsBlankOf};
 
 mod case;
 mod reply;
@@ -48,9 +49,7 @@ fn wrong_of<L: Ledger>(
     case: Case,
     blank: Blank,
 ) -> Result<Option<String>, AllocError>
-    requires name { blank.name ≡ L.name }
-    requires parts { blank.parts ≡ L.parts }
-    requires some { 0 < blank.parts }
+    requires ledger { IsBlankOf blank.name blank.parts L.name L.parts }
     requires first { case.timeline.place ≡ 0 }
 {
     let mut steps = Steps::<L>::new(blank);

@@ -1,5 +1,6 @@
 // Scripts for a console: over a program that stores a word twice, and over one that sums its input.
 ghost use Rattle.std.specs.Prelude.{◌≡◌, ◌<◌, ◌≤◌};
+ghost use Rattle.rv_machine.specs.Prelude.{IsBlankOf};
 ghost use Rattle.plan_types.specs.declared.limits.TheConstants.{MOST_SLOTS};
 
 use crate::sessions::{STACK, have_room};
@@ -39,9 +40,7 @@ fn answered<K: Keeper, L: Ledger>(
     out: &mut MemorySink,
     blank: Blank,
 ) -> Result<u32, Fail>
-    requires name { blank.name ≡ L.name }
-    requires parts { blank.parts ≡ L.parts }
-    requires some { 0 < blank.parts }
+    requires { IsBlankOf blank.name blank.parts L.name L.parts }
 {
     let count = over.count;
     assert!(rt; count <= 1_000_000);

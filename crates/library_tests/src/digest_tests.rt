@@ -1,6 +1,7 @@
 // The digests of the states of a unit, taken with workers in parallel.
 ghost use Rattle.std.specs.Prelude.{◌≡◌, ◌<◌, IfOk};
 ghost use Rattle.std.specs.List.{AllByRecursion};
+ghost use Rattle.rv_machine.specs.Prelude.{IsBlankOf};
 ghost use Rattle.unit_undo.specs.Prelude.{LeadsBack, led_back};
 ghost use Rattle.unit_digests.specs.Prelude.{states_of, AreDigests, HasPages};
 
@@ -72,9 +73,7 @@ fn take_digests<L: Ledger, R: Threads + Sync>(
     case: &Case,
     blank: Blank,
 ) -> Result<(), Fail>
-    requires name { blank.name ≡ L.name }
-    requires parts { blank.parts ≡ L.parts }
-    requires some { 0 < blank.parts }
+    requires { IsBlankOf blank.name blank.parts L.name L.parts }
 {
     let journal = read_journal(alloc, Vec::from_slice(alloc, JOURNAL)?)?;
     let mut steps = Steps::<L>::new(blank);

@@ -4,6 +4,7 @@
 ghost use Rattle.std.specs.Prelude.{◌≡◌, ◌^◌, ◌<◌, ◌≤◌, vec_len, IfOk};
 ghost use Rattle.std.specs.List.{All};
 ghost use Rattle.std.specs.List.Sorted.{IsStrictlyIncreasing};
+ghost use Rattle.rv_machine.specs.Prelude.{IsBlankOf};
 ghost use Rattle.rv_pages.specs.Prelude.{page_numbers};
 
 use crate::states::first_state;
@@ -173,9 +174,7 @@ fn journals_are_read_and_written_as_they_are_spelled(rt: HostRuntime) -> Result<
 
 // The state after a step without recorded input.
 fn stepped<L: Ledger>(mut state: State, alloc: Global, blank: Blank) -> State
-    requires name { blank.name ≡ L.name }
-    requires parts { blank.parts ≡ L.parts }
-    requires some { 0 < blank.parts }
+    requires { IsBlankOf blank.name blank.parts L.name L.parts }
     ensures { page_numbers result.memory ≡ page_numbers state.memory }
 {
     let mut steps = Steps::<L>::new(blank);

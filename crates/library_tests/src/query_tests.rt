@@ -1,6 +1,7 @@
 // Questions on a program that stores a word twice, over a list of four steps.
 ghost use Rattle.std.specs.Prelude.{◌≡◌, ◌<◌, ◌≤◌, IfOk};
 ghost use Rattle.std.specs.Bool.{OnTrue};
+ghost use Rattle.rv_machine.specs.Prelude.{IsBlankOf};
 ghost use Rattle.level_book.specs.Prelude.{slots_of, Valid};
 ghost use Rattle.reverse_runner.specs.Prelude.{slot_counts};
 ghost use Rattle.reverse_queries.specs.Prelude.{AwaitsList};
@@ -53,8 +54,8 @@ fn is_valid(alloc: Global, list: &[Action], book: &Book) -> Result<bool, AllocEr
 
 // Asks a session of four steps at its start. A state is written to a sink.
 fn ask_session<K: Keeper, L: Ledger>(
-    session: &mut Session,
     list: &[Action],
+    session: &mut Session,
     keepers: &mut Vec<K>,
     ask: Ask,
     out: &mut MemorySink,
@@ -91,9 +92,7 @@ fn performed<K: Keeper, L: Ledger>(
     out: &mut MemorySink,
     blank: Blank,
 ) -> Result<(Result<Option<u32>, RunFault>, u64), AllocError>
-    requires name { blank.name ≡ L.name }
-    requires parts { blank.parts ≡ L.parts }
-    requires some { 0 < blank.parts }
+    requires ledger { IsBlankOf blank.name blank.parts L.name L.parts }
     requires unit { (1 ≤ unit) × (unit ≤ 1024) }
 {
     assert!(rt;
@@ -105,7 +104,7 @@ fn performed<K: Keeper, L: Ledger>(
     let mut steps = Steps::<L>::new(blank);
     let start = first_state(rt, alloc, &[0x10, 0xbffff], &WORDS, STACK)?;
     let mut session = Session::begin(alloc, start, Journal::none(alloc), 4, unit, book)?;
-    let step = ask_session(&mut session, list, keepers, ask, out, &mut steps);
+    let step = ask_session(list, &mut session, keepers, ask, out, &mut steps);
     Ok((step, session.done()))
 }
 

@@ -1,6 +1,7 @@
 // That the workers of a search run in parallel, from the first state of their segments to the last, and that a worker
 // ends only at a place after its segment. That every number of workers gives the same answer.
 ghost use Rattle.std.specs.Prelude.{◌≡◌, ◌≤◌, ◌<◌};
+ghost use Rattle.rv_machine.specs.Prelude.{IsBlankOf};
 ghost use Rattle.plan_types.specs.declared.limits.TheConstants.{MOST_STEPS};
 
 use crate::meeting::Meeting;
@@ -63,9 +64,7 @@ fn found_by<L: Ledger, R: Threads + Sync, G: Gate + Sync>(
 ) -> Result<Option<u32>, Fail>
     requires workers { (1 ≤ search.workers) × (search.workers ≤ 64) }
     requires few { search.last ≤ MOST_STEPS }
-    requires name { blank.name ≡ L.name }
-    requires parts { blank.parts ≡ L.parts }
-    requires some { 0 < blank.parts }
+    requires ledger { IsBlankOf blank.name blank.parts L.name L.parts }
 {
     let journal = Journal::none(alloc);
     let mut steps = Steps::<L>::new(blank);

@@ -1,5 +1,6 @@
 // Lists performed over four words, with working and failing keepers and writers.
 ghost use Rattle.std.specs.Prelude.{◌≡◌, ◌*◌, ◌<◌, ◌≤◌};
+ghost use Rattle.rv_machine.specs.Prelude.{IsBlankOf};
 ghost use Rattle.plan_types.specs.declared.limits.TheConstants.{MOST_STEPS};
 ghost use Rattle.reverse_runner.specs.Prelude.{HaveRoom, slot_counts};
 
@@ -72,8 +73,8 @@ struct Seen {
 
 // Performs an action if it breaks no rule, and says how it was refused.
 fn refusal<K: Keeper, V: Visitor, L: Ledger>(
-    session: &mut Session,
     action: &Action,
+    session: &mut Session,
     keepers: &mut Vec<K>,
     visitor: &mut V,
     steps: &mut Steps<L>,
@@ -90,8 +91,8 @@ fn refusal<K: Keeper, V: Visitor, L: Ledger>(
 // Performs each action that breaks no rule when its turn comes, and says how others were refused.
 fn go_through<K: Keeper, V: Visitor, L: Ledger>(
     alloc: Global,
-    session: &mut Session,
     list: &[Action],
+    session: &mut Session,
     keepers: &mut Vec<K>,
     visitor: &mut V,
     steps: &mut Steps<L>,
@@ -100,7 +101,7 @@ fn go_through<K: Keeper, V: Visitor, L: Ledger>(
 {
     let mut faults = Vec::new(alloc);
     for action in list {
-        if let Some(fault) = refusal(session, action, keepers, visitor, steps) {
+        if let Some(fault) = refusal(action, session, keepers, visitor, steps) {
             faults.push(fault)?;
         }
     }
@@ -122,9 +123,7 @@ fn performed<K: Keeper, L: Ledger>(
     requires count { count ≤ MOST_STEPS }
     requires unit { (1 ≤ unit) × (unit ≤ 1024) }
     requires few { unit * count ≤ MOST_STEPS }
-    requires name { blank.name ≡ L.name }
-    requires parts { blank.parts ≡ L.parts }
-    requires some { 0 < blank.parts }
+    requires ledger { IsBlankOf blank.name blank.parts L.name L.parts }
 {
     assert!(rt;
         have_room(keepers.as_slice(), &book, count),
@@ -140,7 +139,7 @@ fn performed<K: Keeper, L: Ledger>(
         unit,
         book,
     )?;
-    let faults = go_through(alloc, &mut session, list, keepers, &mut writer, &mut steps)?;
+    let faults = go_through(alloc, list, &mut session, keepers, &mut writer, &mut steps)?;
     Ok(Seen {
         done: session.done(),
         faults,

@@ -1,6 +1,7 @@
 // Which digests are known of the states that a session hands out.
 ghost use Rattle.std.specs.Prelude.{◌≡◌, ◌<◌, ℕ, List};
 ghost use Rattle.std.specs.List.{AllByRecursion};
+ghost use Rattle.rv_machine.specs.Prelude.{IsBlankOf};
 ghost use Rattle.unit_digests.specs.Prelude.{HasPages};
 ghost use Rattle.reverse_runner.specs.Prelude.{HaveRoom, slot_counts};
 
@@ -103,9 +104,7 @@ fn counted<L: Ledger, R: Threads + Sync>(
     workers: u32,
     blank: Blank,
 ) -> Result<Counts, Fail>
-    requires name { blank.name ≡ L.name }
-    requires parts { blank.parts ≡ L.parts }
-    requires some { 0 < blank.parts }
+    requires { IsBlankOf blank.name blank.parts L.name L.parts }
 {
     let journal = read_journal(alloc, Vec::from_slice(alloc, JOURNAL)?)?;
     let mut keepers = vec![in alloc; MemoryKeeper::new(alloc, 1)]?;

@@ -1,6 +1,6 @@
 // Units of one step, of two, and of more than a program takes before it stops.
 ghost use Rattle.std.specs.Prelude.{◌≡◌, ◌<◌, ◌≤◌};
-ghost use Rattle.rv_machine.specs.Prelude.{state_number};
+ghost use Rattle.rv_machine.specs.Prelude.{state_number, IsBlankOf};
 ghost use Rattle.unit_undo.specs.Prelude.{LeadsBack, led_back, HasSteps, IsMadeFor};
 
 use crate::states::first_state;
@@ -74,9 +74,7 @@ fn go_there_and_back<L: Ledger>(
     units: u32,
     blank: Blank,
 ) -> Result<(), Fail>
-    requires name { blank.name ≡ L.name }
-    requires parts { blank.parts ≡ L.parts }
-    requires some { 0 < blank.parts }
+    requires ledger { IsBlankOf blank.name blank.parts L.name L.parts }
     requires unit { (1 ≤ unit) × (unit ≤ 1024) }
 {
     let mut steps = Steps::<L>::new(blank);

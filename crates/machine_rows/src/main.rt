@@ -9,6 +9,7 @@
 #![tactic(auto)]
 
 ghost use Rattle.std.specs.Prelude.{◌≡◌, ◌<◌, ◌≤◌, ◌%◌};
+ghost use Rattle.rv_machine.specs.Prelude.{IsBlankOf};
 
 mod came;
 mod case;
@@ -99,9 +100,7 @@ fn seen_by<L: Ledger>(
     wanted: &Map<String, Value>,
     blank: Blank,
 ) -> Result<Seen, AllocError>
-    requires name { blank.name ≡ L.name }
-    requires parts { blank.parts ≡ L.parts }
-    requires some { 0 < blank.parts }
+    requires { IsBlankOf blank.name blank.parts L.name L.parts }
 {
     let mut steps = Steps::<L>::new(blank);
     run(alloc, case, wanted, &mut steps)
@@ -121,9 +120,7 @@ fn row_came(alloc: Global, line: &str) -> Result<bool, AllocError> {
 
 // The state after the step of a row.
 fn stepped<L: Ledger>(alloc: Global, row: &Row, blank: Blank) -> Result<State, AllocError>
-    requires name { blank.name ≡ L.name }
-    requires parts { blank.parts ≡ L.parts }
-    requires some { 0 < blank.parts }
+    requires ledger { IsBlankOf blank.name blank.parts L.name L.parts }
     requires pc { 0x100000 ≤ row.now.pc }
     requires aligned { row.now.pc % 4 ≡ 0 }
 {

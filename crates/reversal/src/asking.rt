@@ -66,16 +66,16 @@ impl Asking {
         let Ok(mut session) = Session::begin(alloc, start, journal, steps, unit, book) else {
             return Outcome::Memory;
         };
-        answer_from(&mut session, &list, keepers, question, out, counter)
+        answer_from(question, &mut session, &list, keepers, out, counter)
     }
 }
 
 // Answers a question by a session that has just begun.
 fn answer_from<K: Keeper, O: Sink, L: Ledger>(
+    question: Question,
     session: &mut Session,
     list: &[Action],
     keepers: &mut Vec<K>,
-    question: Question,
     out: &mut O,
     counter: &mut Steps<L>,
 ) -> Outcome
@@ -86,7 +86,7 @@ fn answer_from<K: Keeper, O: Sink, L: Ledger>(
         keepers.old.items keepers.new.items counter.old counter.new }
 {
     match question {
-        Question::State(place) => show_state(session, list, keepers, place as u32, out, counter),
+        Question::State(place) => show_state(place as u32, session, list, keepers, out, counter),
         Question::LastWrite(address) => {
             let found = last_write(session, list, keepers, address, counter);
             tell(found, session, out)
@@ -100,10 +100,10 @@ fn answer_from<K: Keeper, O: Sink, L: Ledger>(
 
 // Writes the line of the state with a number.
 fn show_state<K: Keeper, O: Sink, L: Ledger>(
+    place: u32,
     session: &mut Session,
     list: &[Action],
     keepers: &mut Vec<K>,
-    place: u32,
     out: &mut O,
     counter: &mut Steps<L>,
 ) -> Outcome

@@ -6,6 +6,7 @@
 #![tactic(auto)]
 
 ghost use Rattle.std.specs.Prelude.{◌≡◌, ◌<◌};
+ghost use Rattle.rv_machine.specs.Prelude.{IsBlankOf};
 
 mod bytes;
 mod came;
@@ -166,9 +167,7 @@ fn seen_of(alloc: Global, called: &MemoryRun) -> Result<Seen<'_>, AllocError> {
 
 // Makes the call of a case.
 fn called<T: Threads + Sync, L: Ledger>(threads: &T, case: Case, blank: Blank) -> MemoryRun
-    requires name { blank.name ≡ L.name }
-    requires parts { blank.parts ≡ L.parts }
-    requires some { 0 < blank.parts }
+    requires { IsBlankOf blank.name blank.parts L.name L.parts }
 {
     let Case {
         alloc,

@@ -2,6 +2,7 @@
 ghost use Rattle.std.specs.Prelude.{◌≡◌, ◌<◌, ℕ, List, [], Some, IfOk, Vec, None};
 ghost use Rattle.std.specs.declared.alloc.Global.{Global as AGlobal};
 ghost use Rattle.std.specs.FinMap as finmap;
+ghost use Rattle.rv_machine.specs.Prelude.{IsBlankOf};
 ghost use Rattle.keepers.specs.Prelude.{AnyKeeper as AnAnyKeeper, told_of, asked_of, input_faults_of, fresh};
 ghost use Rattle.memory_disk.specs.declared.MemoryDisk.{MemoryDisk as AMemoryDisk};
 ghost use Rattle.reverse_runner.specs.Prelude.{by_number};
@@ -128,9 +129,7 @@ pub fn run_over_files<T: Threads + Sync, L: Ledger>(
     case: FilesCase,
     blank: Blank,
 ) -> Result<Ran<MemoryDisk, Vec<u8>>, AllocError>
-    requires name { blank.name ≡ L.name }
-    requires parts { blank.parts ≡ L.parts }
-    requires some { 0 < blank.parts }
+    requires { IsBlankOf blank.name blank.parts L.name L.parts }
     ensures { (r : Request) → Asks (words_of case.words) r → IfOk result (λ ran. (before : List (AnAnyKeeper AMemoryDisk)) × (out : Vec ℕ AGlobal)
         × (steps : ℕ) × (steps' : ℕ) × (out.items ≡ [])
         × ((k : ℕ) → k < 4 → by_number None (told_of ⟦<MemoryDisk as Disk>⟧.told) before k ≡ Some finmap.empty)

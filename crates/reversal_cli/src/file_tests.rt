@@ -1,6 +1,7 @@
 // Runs of the program over files of the system, and where the words place them. The cases of `reversal_calls` cover
 // objects in memory.
 ghost use Rattle.std.specs.Prelude.{◌≡◌, ◌<◌};
+ghost use Rattle.rv_machine.specs.Prelude.{IsBlankOf};
 
 use crate::disks;
 use keepers::SystemDisk;
@@ -58,9 +59,7 @@ fn run_words<T: Threads + Sync, L: Ledger>(
     words: &Words,
     blank: Blank,
 ) -> Result<RanOverFiles, Fail>
-    requires name { blank.name ≡ L.name }
-    requires parts { blank.parts ≡ L.parts }
-    requires some { 0 < blank.parts }
+    requires { IsBlankOf blank.name blank.parts L.name L.parts }
 {
     let disks = disks(rt)?;
     let mut steps = Steps::<L>::new(blank);

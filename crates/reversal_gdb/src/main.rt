@@ -4,6 +4,7 @@
 #![tactic(auto)]
 
 ghost use Rattle.std.specs.Prelude.{◌≡◌, ◌≢◌, ◌<◌};
+ghost use Rattle.rv_machine.specs.Prelude.{IsBlankOf};
 ghost use Rattle.endings.specs.Prelude.{no_memory, stopped};
 ghost use Rattle.gdb_session.specs.declared.server.ServeFault.TheVariants as fault_is;
 
@@ -81,9 +82,7 @@ fn session<R: Threads + Drop, L: Ledger>(
     line: &mut StdLine<R>,
     blank: Blank,
 ) -> Outcome
-    requires name { blank.name ≡ L.name }
-    requires parts { blank.parts ≡ L.parts }
-    requires some { 0 < blank.parts }
+    requires { IsBlankOf blank.name blank.parts L.name L.parts }
 {
     match answered::<R, L>(rt, run, line, blank) {
         Ok(()) => Outcome::Done,
@@ -98,9 +97,7 @@ fn answered<R: Threads + Drop, L: Ledger>(
     line: &mut StdLine<R>,
     blank: Blank,
 ) -> Result<(), Outcome>
-    requires name { blank.name ≡ L.name }
-    requires parts { blank.parts ≡ L.parts }
-    requires some { 0 < blank.parts }
+    requires { IsBlankOf blank.name blank.parts L.name L.parts }
 {
     let alloc = rt.alloc();
     let Ok(files) = rt.clone() else {

@@ -11,7 +11,7 @@ const MOST_STACK_PAGES: u32 = 1024;
 const STACK_PAGES: u32 = 16;
 
 // How many instructions a run may have.
-const MOST_STEPS: u32 = 4_294_967_294;
+const MOST_STEPS: u32 = u32::MAX - 1;
 
 // How many states may be kept.
 const FEWEST_MARKS: u32 = 2;

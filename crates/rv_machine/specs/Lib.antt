@@ -3,6 +3,7 @@ pub mod StateCode
 pub mod Numbers
 pub mod Products
 pub mod ProductLaws
+pub mod Counting
 pub mod Effects
 pub mod StateChanges
 pub mod SystemCalls

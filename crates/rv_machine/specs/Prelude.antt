@@ -1,5 +1,6 @@
 -- The names that the clauses of other crates cite, passed on from one place. Declares nothing.
 pub use Rattle.rv_machine.specs.MachineState.{IsMachineState, IsStatus, MachineState}
+pub use Rattle.rv_machine.specs.Counting.{IsBlankOf}
 pub use Rattle.rv_machine.specs.StateChanges.{addresses}
 pub use Rattle.rv_machine.specs.SystemCalls.{are_mapped}
 pub use Rattle.rv_machine.specs.StepTable.{is_running, next, written}

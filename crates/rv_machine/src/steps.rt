@@ -1,5 +1,6 @@
 // A count of the steps of all machines that share it.
 ghost use Rattle.std.specs.Prelude.{◌≡◌, ◌+◌, ◌<◌, ℕ};
+ghost use Rattle.rv_machine.specs.Counting.{IsBlankOf};
 
 use crate::memo::Memo;
 use std::marker::Model;
@@ -18,9 +19,7 @@ pub struct Steps<L: Ledger> {
 impl<L: Ledger> Steps<L> {
     /// The count before the first step. The caller chooses the ledger, since the count isn't in compiled code.
     pub fn new(blank: Blank) -> Steps<L>
-        requires name { blank.name ≡ L.name }
-        requires parts { blank.parts ≡ L.parts }
-        requires some { 0 < blank.parts }
+        requires { IsBlankOf blank.name blank.parts L.name L.parts }
         ensures { result ≡ 0 }
     {
         let (book, share) = blank.open::<L>();

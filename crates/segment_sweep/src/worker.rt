@@ -2,7 +2,7 @@
 ghost use Rattle.std.specs.Prelude.{◌≡◌, ◌+◌, ◌<◌, ◌≤◌, length};
 ghost use Rattle.std.specs.Bool.{Decides};
 ghost use Rattle.plan_types.specs.declared.limits.TheConstants.{MOST_STEPS};
-ghost use Rattle.rv_machine.specs.Prelude.{state_number};
+ghost use Rattle.rv_machine.specs.Prelude.{state_number, IsBlankOf};
 ghost use Rattle.state_image.specs.Prelude.{image};
 ghost use Rattle.sha2.specs.Sha256.{sha256};
 ghost use Rattle.segment_sweep.specs.LastMatch.{Quest};
@@ -57,9 +57,7 @@ fn sweep<K: Sought, G: Gate, L: Ledger>(
     mut state: State,
     blank: Blank,
 ) -> Option<u32>
-    requires name { blank.name ≡ L.name }
-    requires parts { blank.parts ≡ L.parts }
-    requires some { 0 < blank.parts }
+    requires ledger { IsBlankOf blank.name blank.parts L.name L.parts }
     requires journal { journal.now ≡ K.quest.journal }
     requires digest { digest.now ≡ K.quest.digest }
     requires within { (from ≤ to) × (to ≤ K.quest.count + 1) × (K.quest.count ≤ MOST_STEPS) }

@@ -14,6 +14,7 @@
 #![tactic(auto)]
 
 ghost use Rattle.std.specs.Prelude.{◌≡◌, ◌<◌};
+ghost use Rattle.rv_machine.specs.Prelude.{IsBlankOf};
 
 mod moves;
 mod order;
@@ -62,9 +63,7 @@ fn first_wrong<L: Ledger>(
     value: &Value,
     blank: Blank,
 ) -> Result<Option<String>, AllocError>
-    requires name { blank.name ≡ L.name }
-    requires parts { blank.parts ≡ L.parts }
-    requires some { 0 < blank.parts }
+    requires { IsBlankOf blank.name blank.parts L.name L.parts }
 {
     let mut steps = Steps::<L>::new(blank);
     walk.first_wrong(alloc, value, &mut steps)

@@ -1,5 +1,6 @@
 // How fast moves are, and how much memory they take.
 ghost use Rattle.std.specs.Prelude.{◌≡◌, ◌<◌};
+ghost use Rattle.rv_machine.specs.Prelude.{IsBlankOf};
 
 use case_files::program_of;
 use input_journal::Journal;
@@ -62,9 +63,7 @@ fn measure_plain<L: Ledger>(
     count: u32,
     blank: Blank,
 ) -> io::Result<()>
-    requires name { blank.name ≡ L.name }
-    requires parts { blank.parts ≡ L.parts }
-    requires some { 0 < blank.parts }
+    requires { IsBlankOf blank.name blank.parts L.name L.parts }
 {
     let journal = Journal::none(rt.alloc());
     let mut steps = Steps::<L>::new(blank);
@@ -81,9 +80,7 @@ fn measure_moves<L: Ledger>(
     stops: &Stops,
     blank: Blank,
 ) -> io::Result<()>
-    requires name { blank.name ≡ L.name }
-    requires parts { blank.parts ≡ L.parts }
-    requires some { 0 < blank.parts }
+    requires { IsBlankOf blank.name blank.parts L.name L.parts }
 {
     let budget = budget_for(marks, start.pages.count());
     let mut timeline = Timeline::begin(
