@@ -1,5 +1,5 @@
 //! Checks certificates, which show that a list is the least: of all valid lists, or of its class. It uses `cert_text`,
-//! `pebble_bound`, `class_bounds` and most crates for schedules. `requests` and `reversal` use it. A certificate shows
+//! `pebble_bound`, `class_bounds` and most crates for schedules. `endings` and `reversal` use it. A certificate shows
 //! this to a reader who trusts neither a plan nor its planner. Texts of certificates are in `cert_text`, and entries of
 //! tables in `table_clauses`. `specs/Acceptance.antt` says which certificate is accepted for which list, and why
 //! another isn't. `specs/Thresholds.antt` says which places a threshold doesn't fit.

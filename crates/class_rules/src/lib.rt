@@ -1,5 +1,5 @@
 //! Decides whether a list is in a class of schedules. It uses `schedule_rules`, `binomials` and `revolve_gen`.
-//! `bound_cert` and `reversal_cli` use it. The multistage class is defined in `revolve_gen`, and the nested and disk
+//! `bound_cert` uses it. The multistage class is defined in `revolve_gen`, and the nested and disk
 //! classes in `level_book`. All lists of these classes are valid.
 #![tactic(auto)]
 

@@ -1,5 +1,4 @@
--- No public clause cites this file.
--- What is read of a file: its header, and its load segments.
+-- No public clause cites this file. What is read of a file: its header, and its load segments.
 use Rattle.std.specs.Prelude.{◌≡◌, ◌⊎◌, ◌+◌, ◌<◌, ◌≤◌, ℕ, List, length, map, take, drop, slice_index_or}
 use Rattle.elf_load.specs.declared.fault.ElfFault.{ElfFault}
 use Rattle.elf_load.specs.declared.fault.ElfFault.TheVariants.{Overlap, TooLarge, Memory}

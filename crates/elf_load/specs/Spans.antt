@@ -1,5 +1,4 @@
--- No public clause cites this file.
--- Runs of pages, and the pages of several of them.
+-- No public clause cites this file. Runs of pages, and the pages of several of them.
 use Rattle.std.specs.Prelude.{◌+◌, ◌-◌, ◌/◌, ℕ, max, List, [], ◌∷◌, ◌++◌}
 use Rattle.std.specs.List.{range_with_len}
 use Rattle.elf_load.specs.declared.segment.Segment.{Segment}

@@ -1,6 +1,6 @@
 //! Loads program files: the start state of an ELF file, or of raw words. It uses `rv_pages` and `rv_machine`.
-//! `requests`, `reversal`, `reversal_gdb` and `case_files` use it. `specs/Program.antt` defines start states. `specs/Elf.antt` and
-//! `specs/Raw.antt` say which bytes have one, and `specs/Faults.antt` why other bytes have none.
+//! `endings`, `reversal`, `reversal_gdb` and `case_files` use it. `specs/Program.antt` defines start states.
+//! `specs/Elf.antt` and `specs/Raw.antt` say which bytes have one, and `specs/Faults.antt` why other bytes have none.
 #![tactic(auto)]
 
 mod apart;

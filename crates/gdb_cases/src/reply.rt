@@ -1,4 +1,4 @@
-// What goes, in a form in which it doesn't matter how texts for the user are cut.
+// Replies with neighbouring output packets joined, so that it doesn't matter where texts are cut.
 
 use gdb_wire::{Item, next_item};
 use std::alloc::{AllocError, Global};

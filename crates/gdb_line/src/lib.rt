@@ -1,4 +1,5 @@
-//! A line to a debugger: bytes come in on it, and bytes go out. It uses `keepers`. No crate uses it yet.
+//! A line to a debugger: bytes come in on it, and bytes go out. It uses `keepers`.
+//! `gdb_session` and `reversal_gdb` use it.
 #![tactic(auto)]
 
 mod line;

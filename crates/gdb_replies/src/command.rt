@@ -59,20 +59,14 @@ fn word(text: &[u8]) -> Command
     requires { ¬ (Begins text.now (codes "goto ")) }
     ensures { IsCommand text.now result }
 {
-    if text == b"when".as_slice() {
-        Command::When
-    } else if text == b"end".as_slice() {
-        Command::End
-    } else if text == b"line".as_slice() {
-        Command::Line
-    } else if text == b"quiet on".as_slice() {
-        Command::Quiet(true)
-    } else if text == b"quiet off".as_slice() {
-        Command::Quiet(false)
-    } else if text == b"help".as_slice() {
-        Command::Help
-    } else {
-        Command::Unknown
+    match text {
+        b"when" => Command::When,
+        b"end" => Command::End,
+        b"line" => Command::Line,
+        b"quiet on" => Command::Quiet(true),
+        b"quiet off" => Command::Quiet(false),
+        b"help" => Command::Help,
+        _ => Command::Unknown,
     }
 }
 

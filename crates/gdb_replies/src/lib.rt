@@ -1,5 +1,5 @@
 //! What gdb and its user see of a state: registers, memory, and text lines. It uses `gdb_wire`, `rv_machine`,
-//! `state_image` and the crates below them. No crate uses it yet. It also has the description of the target, and the
+//! `state_image` and the crates below them. `gdb_session` uses it. It also has the description of the target, and the
 //! commands after `monitor`.
 #![tactic(auto)]
 

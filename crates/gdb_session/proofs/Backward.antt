@@ -5,7 +5,7 @@ use Rattle.keepers.specs.Claims.{Tells}
 use Rattle.gdb_line.specs.Talk.{Talk}
 use Rattle.gdb_wire.specs.declared.request.Motion.TheVariants as motion
 use Rattle.run_timeline.specs.declared.stops.Hit.{Hit}
-use Rattle.run_timeline.specs.Moves.{EndsBackward, CameBack}
+use Rattle.run_timeline.specs.Moves.{EndsBackward, CameBackward}
 use Rattle.gdb_session.specs.declared.halt.Halt.TheVariants.{AtBeginning, Interrupted}
 use Rattle.gdb_session.specs.declared.server.Server.{Server}
 use Rattle.gdb_session.specs.Debugger.{Debugger}
@@ -25,7 +25,7 @@ again_elsewhere d e f n first second = second ∙ ap (λ (x : Debugger). record 
 
 -- what was looked for from a place on
 abbrev pub Looked : Debugger → ℕ → ℕ → Option (ℕ × Hit) → Type 0
-Looked d end from o = MatchOption o (CameBack d.run d.stops end from) (λ found. EndsBackward d.run d.stops end found.0 (Some found.1))
+Looked d end from o = MatchOption o (CameBackward d.run d.stops end from) (λ found. EndsBackward d.run d.stops end found.0 (Some found.1))
 
 looked_there : (s t : Server) (end from : ℕ) (x y : Option Talk) (o : Option (ℕ × Hit)) → BackWay s t end x y → Looked t.session end from o → Looked s.session end from o
 looked_there s t end from x y o way h = subst (λ (d : Debugger). Looked d end from o) way.session h
@@ -34,7 +34,7 @@ looked_there s t end from x y o way h = subst (λ (d : Debugger). Looked d end f
 
 pub back_begins : (s : Server) (end : ℕ) (x : Option Talk) → end ≡ s.session.place → BackWay s s end x x
 back_begins s end x e = record {
-  back = subst (λ (q : ℕ). CameBack s.session.run s.session.stops s.session.place q) (sym e) (back_none s.session.run s.session.stops s.session.place);
+  back = subst (λ (q : ℕ). CameBackward s.session.run s.session.stops s.session.place q) (sym e) (back_none s.session.run s.session.stops s.session.place);
   high = omega (arith, e);
   session = refl;
   out = refl;
@@ -60,7 +60,7 @@ pub back_paused : (s t v : Server) (end from : ℕ) (x y z : Option Talk) (o : O
     OnlyHolds (record t { session = look }) v → Tells y z (Holds (record t { session = look }) v) → BackWay s v from x z
 back_paused s t v end from x y z o look way is looked less looks only holds =
     let mid : Server = record t { session = look } in
-    let came : CameBack s.session.run s.session.stops end from = subst (λ (p : Option (ℕ × Hit)). Looked s.session end from p) is (looked_there s t end from x y o way looked) in
+    let came : CameBackward s.session.run s.session.stops end from = subst (λ (p : Option (ℕ × Hit)). Looked s.session end from p) is (looked_there s t end from x y o way looked) in
     let e : v.session ≡ look = ap (λ (k : Talker). k.debugger) only.talker_same in
     let f : v.last.items ≡ t.last.items = ap (λ (k : Talker). k.last) only.talker_same in
     let there : v.session.place ≡ end = ap (λ (d : Debugger). d.place) (e ∙ looks) in

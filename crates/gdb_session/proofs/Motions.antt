@@ -12,7 +12,7 @@ use Rattle.run_timeline.specs.declared.stops.Hit.TheVariants.{Break, Watch}
 use Rattle.run_timeline.specs.declared.stops.Part.{Part}
 use Rattle.run_timeline.specs.declared.stops.Step.{Step}
 use Rattle.run_timeline.specs.declared.stops.Step.TheVariants.{Went, Watched, End}
-use Rattle.run_timeline.specs.Moves.{Run, StopList, EndsForward, EndsBackward, CameOn, CameBack, step_ahead, step_behind, steps_of}
+use Rattle.run_timeline.specs.Moves.{Run, StopList, EndsForward, EndsBackward, CameForward, CameBackward, step_ahead, step_behind, steps_of}
 use Rattle.run_timeline.specs.MoveParts.{MatchPart}
 use Rattle.gdb_session.specs.declared.halt.Halt.{Halt}
 use Rattle.gdb_session.specs.declared.halt.Halt.TheVariants.{AtPlace, AtWrite, AtBeginning, AtEnd, Interrupted}
@@ -126,7 +126,7 @@ breaks_at_once s motion a b within g =
     breaks_with s motion e.m e.halt e.written a b e.leads e.apart e.shows (g (s.out.items ++ flat_map reply_packet e.written))
 
 -- on the way, behind what went already
-pub breaks_on : (s t : Server) (written : List (List ℕ)) (a b c : Talk) → CameOn s.session.run s.session.stops s.session.place t.session.place → t.session.place ≤ s.session.run.most → IsShown s t written →
+pub breaks_on : (s t : Server) (written : List (List ℕ)) (a b c : Talk) → CameForward s.session.run s.session.stops s.session.place t.session.place → t.session.place ≤ s.session.run.most → IsShown s t written →
     Does s t (flat_map reply_packet written) a b → GoesSome t.out.items b c → BreaksOff s motion.Continue a c
 breaks_on s t written a b c came within shown does g =
     let d : Debugger = s.session in
@@ -164,13 +164,13 @@ shown_joined s t u xs ys one two h g = record {
 -- a move forward that came so far
 pub record OnWay (s t : Server) (x y : Option Talk) : Type 0 where
   pub written : List (List ℕ)
-  pub came : CameOn s.session.run s.session.stops s.session.place t.session.place
+  pub came : CameForward s.session.run s.session.stops s.session.place t.session.place
   pub behind : s.session.place < t.session.place
   pub within : t.session.place ≤ s.session.run.most
   pub shown : IsShown s t written
   pub told : Tells x y (Does s t (flat_map reply_packet written))
 
-pub way_begins : (s t : Server) (x : Option Talk) (written : List (List ℕ)) → CameOn s.session.run s.session.stops s.session.place t.session.place → s.session.place < t.session.place → t.session.place ≤ s.session.run.most →
+pub way_begins : (s t : Server) (x : Option Talk) (written : List (List ℕ)) → CameForward s.session.run s.session.stops s.session.place t.session.place → s.session.place < t.session.place → t.session.place ≤ s.session.run.most →
     IsShown s t written → t.out.items ≡ s.out.items ++ flat_map reply_packet written → t.held.items ≡ s.held.items → OnWay s t x x
 way_begins s t x written came behind within shown out held = record {
   written = written;
@@ -192,7 +192,7 @@ way_pauses s t u x y z way same does =
     let within = way.within in
     record {
       written = way.written;
-      came = subst (λ (q : ℕ). CameOn s.session.run s.session.stops s.session.place q) (sym place) way.came;
+      came = subst (λ (q : ℕ). CameForward s.session.run s.session.stops s.session.place q) (sym place) way.came;
       behind = omega (arith, behind, place);
       within = omega (arith, within, place);
       shown = shown_same s t u way.written e f way.shown;
@@ -208,7 +208,7 @@ told_more s t u x y xs ys told out held =
     (λ a b h. subst (λ (l : List ℕ). Does s u l a b) (sym (flat_joined reply_packet xs ys)) (does_then s t u (flat_map reply_packet xs) (flat_map reply_packet ys) a b b h (does_adds t u (flat_map reply_packet ys) b held out))) told
 
 pub way_goes_on : (s t u : Server) (x y : Option Talk) (more : List (List ℕ)) → OnWay s t x y → IsShown t u more → t.session.place < u.session.place → u.session.place ≤ s.session.run.most →
-    CameOn s.session.run s.session.stops s.session.place u.session.place → u.out.items ≡ t.out.items ++ flat_map reply_packet more → u.held.items ≡ t.held.items → OnWay s u x y
+    CameForward s.session.run s.session.stops s.session.place u.session.place → u.out.items ≡ t.out.items ++ flat_map reply_packet more → u.held.items ≡ t.held.items → OnWay s u x y
 way_goes_on s t u x y more way shown further within came out held =
     let behind = way.behind in
     record {
@@ -221,15 +221,15 @@ way_goes_on s t u x y more way shown further within came out held =
     }
 
 abbrev pub came_here : (s t : Server) (x y : Option Talk) → OnWay s t x y → CameHere t.session
-came_here s t x y way = (s.session.place, way.behind, subst (λ (d : Debugger). CameOn d.run d.stops s.session.place t.session.place) (sym way.shown.session) way.came)
+came_here s t x y way = (s.session.place, way.behind, subst (λ (d : Debugger). CameForward d.run d.stops s.session.place t.session.place) (sym way.shown.session) way.came)
 
 -- what the next part says of the move as a whole
 pub parts_on : (s t : Server) (x y : Option Talk) (part : Part) (m : ℕ) → OnWay s t x y →
-    ((p : ℕ) → p < t.session.place → CameOn t.session.run t.session.stops p t.session.place → MatchPart part (EndsForward t.session.run t.session.stops p m) (CameOn t.session.run t.session.stops p m)) →
-    MatchPart part (EndsForward s.session.run s.session.stops s.session.place m) (CameOn s.session.run s.session.stops s.session.place m)
+    ((p : ℕ) → p < t.session.place → CameForward t.session.run t.session.stops p t.session.place → MatchPart part (EndsForward t.session.run t.session.stops p m) (CameForward t.session.run t.session.stops p m)) →
+    MatchPart part (EndsForward s.session.run s.session.stops s.session.place m) (CameForward s.session.run s.session.stops s.session.place m)
 parts_on s t x y part m way ends =
     let here = came_here s t x y way in
-    subst (λ (d : Debugger). MatchPart part (EndsForward d.run d.stops s.session.place m) (CameOn d.run d.stops s.session.place m)) way.shown.session (ends here.0 here.1 here.2)
+    subst (λ (d : Debugger). MatchPart part (EndsForward d.run d.stops s.session.place m) (CameForward d.run d.stops s.session.place m)) way.shown.session (ends here.0 here.1 here.2)
 
 pub within_there : (s t : Server) (x y : Option Talk) (m : ℕ) → OnWay s t x y → m ≤ t.session.run.most → m ≤ s.session.run.most
 within_there s t x y m way le = subst (λ (d : Debugger). m ≤ d.run.most) way.shown.session le
@@ -276,7 +276,7 @@ breaks_way s t x y z way g =
 -- ---- backward
 
 pub record BackWay (s t : Server) (end : ℕ) (x y : Option Talk) : Type 0 where
-  pub back : CameBack s.session.run s.session.stops s.session.place end
+  pub back : CameBackward s.session.run s.session.stops s.session.place end
   pub high : end ≤ t.session.place
   pub session : t.session ≡ record s.session { place = t.session.place }
   pub out : t.out.items ≡ s.out.items
@@ -310,12 +310,12 @@ pub interrupted_back : (s t u : Server) (end : ℕ) (x y : Option Talk) → Back
     Tells x y (λ a b. IsMoved s u motion.ContinueBack Interrupted [] × Does s u [] a b)
 interrupted_back s t u end x y way session place interrupted held out last =
     let order = way.back.0 in
-    let came : CameBack s.session.run s.session.stops s.session.place u.session.place = subst (λ (m : ℕ). CameBack s.session.run s.session.stops s.session.place m) (sym place) way.back in
+    let came : CameBackward s.session.run s.session.stops s.session.place u.session.place = subst (λ (m : ℕ). CameBackward s.session.run s.session.stops s.session.place m) (sym place) way.back in
     let is = moved_back s u Interrupted came (λ _. interrupted) (omega (arith, order, place)) session (last ∙ way.last) in
     tells_so x y (Does s t []) (λ a b. IsMoved s u motion.ContinueBack Interrupted [] × Does s u [] a b) (λ a b h. (is, does_going s t u a b h held out)) way.told
 
 -- one part more, in which bytes may have come
-pub back_goes_on : (s t u : Server) (end from : ℕ) (x y z : Option Talk) → BackWay s t end x y → CameBack s.session.run s.session.stops end from → from ≤ u.session.place → u.session ≡ record s.session { place = u.session.place } →
+pub back_goes_on : (s t u : Server) (end from : ℕ) (x y z : Option Talk) → BackWay s t end x y → CameBackward s.session.run s.session.stops end from → from ≤ u.session.place → u.session ≡ record s.session { place = u.session.place } →
     u.out.items ≡ t.out.items → u.last.items ≡ t.last.items → Tells y z (Does t u []) → BackWay s u from x z
 back_goes_on s t u end from x y z way came high session out last does = record {
   back = back_joined s.session.run s.session.stops s.session.place end from way.back came;

@@ -9,7 +9,7 @@ use Rattle.run_timeline.specs.declared.stops.Hit.TheVariants.{Watch}
 use Rattle.run_timeline.specs.declared.stops.Part.{Part}
 use Rattle.run_timeline.specs.declared.stops.Part.TheVariants.{Ended, GoesOn}
 use Rattle.run_timeline.specs.MoveParts.{MatchPart}
-use Rattle.run_timeline.specs.Moves.{StopList, Run, IsPlace, is_end, broken, watched, ahead, behind, NothingHit, EndsForward, EndsBackward, CameOn, CameBack}
+use Rattle.run_timeline.specs.Moves.{StopList, Run, IsPlace, is_end, broken, watched, ahead, behind, NothingHit, EndsForward, EndsBackward, CameForward, CameBackward}
 use Rattle.run_timeline.proofs.StopHits.{nothing_more}
 use Rattle.run_timeline.proofs.MoveEnds.{last_ends}
 
@@ -22,15 +22,15 @@ pub record EndsOn (r : Run) (stops : StopList) (p q : ℕ) : Type 0 where
   pub order : q ≤ m
   pub ends : EndsForward r stops p m hit
 
-pub came_none : (r : Run) (stops : StopList) (p : ℕ) → CameOn r stops p p
+pub came_none : (r : Run) (stops : StopList) (p : ℕ) → CameForward r stops p p
 came_none r stops p = (omega arith, λ k low high. absurd (omega (arith, low, high)))
 
-ends_on_at : (r : Run) (stops : StopList) (p q : ℕ) (o : Option Hit) (e : Bool) → ahead r stops p q ≡ o → is_end r q ≡ e → CameOn r stops p q → (e ≡ false → o ≡ None → EndsOn r stops p (q + 1)) → EndsOn r stops p q
+ends_on_at : (r : Run) (stops : StopList) (p q : ℕ) (o : Option Hit) (e : Bool) → ahead r stops p q ≡ o → is_end r q ≡ e → CameForward r stops p q → (e ≡ false → o ≡ None → EndsOn r stops p (q + 1)) → EndsOn r stops p q
 ends_on_at r stops p q (Some hit) e is end came further = record { m = q; hit = Some hit; order = omega arith; ends = (came.0, is, came.1) }
 ends_on_at r stops p q None true is end came further = record { m = q; hit = None; order = omega arith; ends = (came.0, end, nothing_more (ahead r stops p) p q came.1 is) }
 ends_on_at r stops p q None false is end came further = let there = further refl refl in record { m = there.m; hit = there.hit; order = omega (arith, there.order); ends = there.ends }
 
-pub ends_on : (r : Run) (stops : StopList) (n p q : ℕ) → q + n ≡ r.most → CameOn r stops p q → EndsOn r stops p q
+pub ends_on : (r : Run) (stops : StopList) (n p q : ℕ) → q + n ≡ r.most → CameForward r stops p q → EndsOn r stops p q
 ends_on r stops zero p q most came =
     ends_on_at r stops p q (ahead r stops p q) (is_end r q) refl refl came (λ running none. absurd (false≢true (sym running ∙ last_ends r q (omega (arith, most)))))
 ends_on r stops (suc n) p q most came =
@@ -39,7 +39,7 @@ ends_on r stops (suc n) p q most came =
     (λ running none. ends_on r stops n p (q + 1) (omega (arith, most)) (omega (arith, order), nothing_more (ahead r stops p) p q came.1 none))
 
 -- a move that came to a place doesn't end before it
-not_before : (r : Run) (stops : StopList) (p q m : ℕ) (hit : Option Hit) → IsPlace r q → CameOn r stops p q → EndsForward r stops p m hit → q ≤ m
+not_before : (r : Run) (stops : StopList) (p q m : ℕ) (hit : Option Hit) → IsPlace r q → CameForward r stops p q → EndsForward r stops p m hit → q ≤ m
 not_before r stops p q m (Some hit) place came ends = elim (cases_lt m q) [
   | inl lt ↦ absurd (none-some hit (sym (came.1 m ends.0 lt) ∙ ends.1))
   | inr ge ↦ ge
@@ -54,7 +54,7 @@ not_before r stops p q m None place came ends = elim (cases_lt m q) [
   | inr ge ↦ ge
 ]
 
-pub order_on : (r : Run) (stops : StopList) (q m : ℕ) (part : Part) → IsPlace r q → ((p : ℕ) × (p < q) × CameOn r stops p q) → ((p : ℕ) → p < q → CameOn r stops p q → MatchPart part (EndsForward r stops p m) (CameOn r stops p m)) →
+pub order_on : (r : Run) (stops : StopList) (q m : ℕ) (part : Part) → IsPlace r q → ((p : ℕ) × (p < q) × CameForward r stops p q) → ((p : ℕ) → p < q → CameForward r stops p q → MatchPart part (EndsForward r stops p m) (CameForward r stops p m)) →
     MatchPart part (λ _. ⊤) (q < m) → q ≤ m
 order_on r stops q m (Ended hit) place here ends further = not_before r stops here.0 q m hit place here.2 (ends here.0 here.1 here.2)
 order_on r stops q m GoesOn place here ends further = omega (arith, further)
@@ -87,17 +87,17 @@ ends_back_from r stops p (suc q) le nothing =
 pub ends_back : (r : Run) (stops : StopList) (p : ℕ) → EndsBack r stops p
 ends_back r stops p = ends_back_from r stops p p (omega arith) (λ k above below. absurd (omega (arith, above, below)))
 
-pub back_none : (r : Run) (stops : StopList) (p : ℕ) → CameBack r stops p p
+pub back_none : (r : Run) (stops : StopList) (p : ℕ) → CameBackward r stops p p
 back_none r stops p = (omega arith, λ k low high. absurd (omega (arith, low, high)))
 
-pub back_joined : (r : Run) (stops : StopList) (p q m : ℕ) → CameBack r stops p q → CameBack r stops q m → CameBack r stops p m
+pub back_joined : (r : Run) (stops : StopList) (p q m : ℕ) → CameBackward r stops p q → CameBackward r stops q m → CameBackward r stops p m
 back_joined r stops p q m h g =
     let one = h.0 in
     let two = g.0 in
     (omega (arith, one, two), λ k low high. elim (cases_lt k q) [ inl lt ↦ g.1 k low lt | inr ge ↦ h.1 k ge high ])
 
 -- a breakpoint where the second part of a move begins counts as one where the first does, since there is none
-break_same : (r : Run) (stops : StopList) (p q k : ℕ) → CameBack r stops p q → k ≤ q → cond (nat_lt k p) (broken r stops k) None ≡ cond (nat_lt k q) (broken r stops k) None
+break_same : (r : Run) (stops : StopList) (p q k : ℕ) → CameBackward r stops p q → k ≤ q → cond (nat_lt k p) (broken r stops k) None ≡ cond (nat_lt k q) (broken r stops k) None
 break_same r stops p q k h le =
     let order = h.0 in
     elim (cases_lt k q) [
@@ -110,32 +110,32 @@ break_same r stops p q k h le =
           ])
     ]
 
-behind_same : (r : Run) (stops : StopList) (p q k : ℕ) → CameBack r stops p q → k ≤ q → behind r stops p k ≡ behind r stops q k
+behind_same : (r : Run) (stops : StopList) (p q k : ℕ) → CameBackward r stops p q → k ≤ q → behind r stops p k ≡ behind r stops q k
 behind_same r stops p q zero h le = break_same r stops p q 0 h le
 behind_same r stops p q (suc k) h le = ap (λ (o : Option Hit). option_or o (option_map Watch (watched r stops k))) (break_same r stops p q (suc k) h le)
 
 -- nothing is hit on the way of the first part
-none_at : (r : Run) (stops : StopList) (p q k : ℕ) → CameBack r stops p q → q < k → cond (nat_lt k p) (broken r stops k) None ≡ None
+none_at : (r : Run) (stops : StopList) (p q k : ℕ) → CameBackward r stops p q → q < k → cond (nat_lt k p) (broken r stops k) None ≡ None
 none_at r stops p q k h lt = elim (cases_lt k p) [
   | inl below ↦ ap (λ (b : Bool). cond b (broken r stops k) None) (lt-ltb k p below) ∙ (h.1 k (omega (arith, lt)) below).0
   | inr above ↦ ap (λ (b : Bool). cond b (broken r stops k) None) (le-ltb k p above)
 ]
 
-none_behind : (r : Run) (stops : StopList) (p q k : ℕ) → CameBack r stops p q → q < k → k < p + 1 → behind r stops p k ≡ None
+none_behind : (r : Run) (stops : StopList) (p q k : ℕ) → CameBackward r stops p q → q < k → k < p + 1 → behind r stops p k ≡ None
 none_behind r stops p q zero h lt le = absurd (omega (arith, lt))
 none_behind r stops p q (suc k) h lt le =
     let at : cond (nat_lt (suc k) p) (broken r stops (suc k)) None ≡ None = none_at r stops p q (suc k) h lt in
     let step : watched r stops k ≡ None = (h.1 k (omega (arith, lt)) (omega (arith, le))).1 in
     λ i. option_or (at i) (option_map Watch (step i))
 
-nothing_behind : (r : Run) (stops : StopList) (p q low : ℕ) → CameBack r stops p q → NothingHit (behind r stops q) low (q + 1) → NothingHit (behind r stops p) low (p + 1)
+nothing_behind : (r : Run) (stops : StopList) (p q low : ℕ) → CameBackward r stops p q → NothingHit (behind r stops q) low (q + 1) → NothingHit (behind r stops p) low (p + 1)
 nothing_behind r stops p q low h nothing k above below = elim (cases_lt q k) [
   | inl lt ↦ none_behind r stops p q k h lt below
   | inr ge ↦ behind_same r stops p q k h ge ∙ nothing k above (omega (arith, ge))
 ]
 
 -- a move that came back to q ends where one from there ends
-pub back_then : (r : Run) (stops : StopList) (p q m : ℕ) (hit : Option Hit) → CameBack r stops p q → EndsBackward r stops q m hit → EndsBackward r stops p m hit
+pub back_then : (r : Run) (stops : StopList) (p q m : ℕ) (hit : Option Hit) → CameBackward r stops p q → EndsBackward r stops q m hit → EndsBackward r stops p m hit
 back_then r stops p q m (Some hit) h ends =
     let one = h.0 in
     let two = ends.0 in
@@ -146,5 +146,5 @@ pub first_behind : (r : Run) (stops : StopList) → NothingHit (behind r stops 0
 first_behind r stops k low high = let same : 0 ≡ k = omega (arith, high) in subst (λ (i : ℕ). behind r stops 0 i ≡ None) same refl
 
 -- one that came to the first place ends there
-pub back_to_first : (r : Run) (stops : StopList) (p : ℕ) → CameBack r stops p 0 → EndsBackward r stops p 0 None
+pub back_to_first : (r : Run) (stops : StopList) (p : ℕ) → CameBackward r stops p 0 → EndsBackward r stops p 0 None
 back_to_first r stops p h = back_then r stops p 0 0 None h (refl, first_behind r stops)

@@ -1,5 +1,5 @@
 -- What the parts of a server's moves add to what is to go, and to the last packet.
-use Rattle.std.proofs.Common.{◌≡◌, ℕ, ◌+◌, ◌-◌, ◌^◌, ◌≤◌, ◌<◌, Bool, true, false, List, [], ◌∷◌, ◌++◌, length, take, map, Option, Result, Ok, Err, OnOk, OnErr, refl, sym, ap, subst, ◌∙◌, arith, append-nil, append_assoc}
+use Rattle.std.proofs.Common.{◌≡◌, ℕ, ◌+◌, ◌^◌, ◌<◌, Bool, true, false, List, [], ◌∷◌, ◌++◌, length, take, map, Option, Result, Ok, Err, OnOk, OnErr, refl, sym, ap, subst, ◌∙◌, arith, append-nil, append_assoc}
 use Rattle.std.specs.List.{flat_map}
 use Rattle.keepers.specs.Claims.{Tells}
 use Rattle.gdb_line.specs.Talk.{Talk, Goes, GoesPartly}
@@ -11,16 +11,16 @@ use Rattle.rv_machine.specs.States.{state_number}
 use Rattle.rv_machine.proofs.Runs.{state_number-add}
 use Rattle.rv_machine.proofs.StateInvariant.{number_is_state}
 use Rattle.run_timeline.specs.declared.stops.Step.{Step}
-use Rattle.run_timeline.specs.Moves.{state, step_ahead, step_behind, steps_of}
+use Rattle.run_timeline.specs.Moves.{Run, state, step_ahead, step_behind, steps_of}
 use Rattle.gdb_session.specs.declared.halt.Halt.{Halt}
 use Rattle.gdb_session.specs.declared.halt.Halt.TheVariants.{AtBeginning, AtEnd}
 use Rattle.gdb_session.specs.declared.server.Server.{Server}
 use Rattle.gdb_session.specs.Debugger.{Debugger, shown}
-use Rattle.gdb_session.specs.Moves.{ArePieces, Shows, step_halt, console_text, ending_texts, halt_text, output_from}
+use Rattle.gdb_session.specs.Moves.{ArePieces, Shows, ShowsBytes, step_halt, console_text, ending_texts, halt_text, output_from}
 use Rattle.gdb_session.specs.Conversation.{last_packet}
 use Rattle.gdb_session.specs.ServerState.{stop_texts, Does, GoesSome, Holds, IsMoved, IsShown, MayCome, OnlyHolds, OnlySends, SaysReply}
 use Rattle.gdb_session.proofs.LineClaims.{tells_so, tells_then, passes_then, goes_passes, comes_passes, some_goes, does_then, does_send, does_hold}
-use Rattle.gdb_session.proofs.ProgramOutput.{flat_joined, none_written, shows_nothing, shows_pieces, shows_back}
+use Rattle.gdb_session.proofs.ProgramOutput.{flat_joined, none_of_none, none_written, shows_back}
 use Rattle.gdb_session.proofs.Motions.{last_joined, moved, step_apart, beginning_apart, end_apart}
 
 -- ---- by how a call ended
@@ -40,28 +40,28 @@ on_ok_both (Err e) f p q = tt
 
 -- ---- output
 
--- what is added where the output is kept silent
-pub silent : (d : Debugger) (from : ℕ) → d.quiet ≡ true → Shows d.quiet d.run from d.place []
-silent d from e = subst (λ (b : Bool). Shows b d.run from d.place []) (sym e) refl
+-- no bytes are shown where the output is kept silent
+pub silent : (d : Debugger) (from : ℕ) → d.quiet ≡ true → ShowsBytes d.quiet d.run from d.place []
+silent d from e = subst (λ (b : Bool). ShowsBytes b d.run from d.place []) (sym e) refl
 
--- and where the program wrote nothing, by its own count
-pub nothing_written : (d : Debugger) (from written : ℕ) → IsMachineState d.run.first → IsRecorded d.run.journal → d.place < 2 ^ 32 → from ≤ d.place → (shown d).written ≡ written → written ≡ (state d.run from).written →
-    Shows d.quiet d.run from d.place []
-nothing_written d from written is recorded few le now before =
-    let n : ℕ = d.place - from in
-    let sum : d.place ≡ from + n = omega (arith, le) in
+none_shown : (quiet : Bool) (r : Run) (p m : ℕ) → ((n : ℕ) → m ≡ p + n → output_from r p n ≡ []) → ShowsBytes quiet r p m []
+none_shown true r p m none = refl
+none_shown false r p m none = λ n sum. sym (none n sum)
+
+-- nor where the program wrote nothing, by its own count
+pub nothing_written : (d : Debugger) (from written : ℕ) → IsMachineState d.run.first → IsRecorded d.run.journal → d.place < 2 ^ 32 → (shown d).written ≡ written → written ≡ (state d.run from).written →
+    ShowsBytes d.quiet d.run from d.place []
+nothing_written d from written is recorded few now before =
+    none_shown d.quiet d.run from d.place
+    (λ n sum.
     let there : state d.run d.place ≡ state_number (state d.run from) d.run.journal n = ap (state d.run) sum ∙ state_number-add d.run.first d.run.journal from n in
     let same : (state_number (state d.run from) d.run.journal n).written ≡ (state d.run from).written = ap (λ (s : MachineState). s.written) (sym there) ∙ now ∙ before in
-    shows_nothing d.quiet d.run from d.place n sum
-    (none_written (state d.run from) d.run.journal n (number_is_state d.run.first d.run.journal from is recorded) recorded (omega (arith, few)) same)
+    none_written (state d.run from) d.run.journal n (number_is_state d.run.first d.run.journal from is recorded) recorded (omega (arith, few, sum)) same)
 
-pub written_out : (d : Debugger) (from : ℕ) (bytes : List ℕ) (pieces : List (List ℕ)) → d.quiet ≡ false → from ≤ d.place → ((n : ℕ) → d.place ≡ from + n → bytes ≡ output_from d.run from n) → ArePieces bytes pieces →
-    Shows d.quiet d.run from d.place (map console_text pieces)
-written_out d from bytes pieces e le is are =
-    let n : ℕ = d.place - from in
-    let sum : d.place ≡ from + n = omega (arith, le) in
-    subst (λ (b : Bool). Shows b d.run from d.place (map console_text pieces)) (sym e)
-    (shows_pieces d.run from d.place n pieces sum (subst (λ (l : List ℕ). ArePieces l pieces) (is n sum) are))
+-- the texts of pieces of the bytes
+pub shows_texts : (quiet : Bool) (r : Run) (p m : ℕ) (bytes : List ℕ) (pieces : List (List ℕ)) → ShowsBytes quiet r p m bytes → ArePieces bytes pieces → Shows quiet r p m (map console_text pieces)
+shows_texts true r p m bytes pieces is are = none_of_none pieces (subst (λ (l : List ℕ). ArePieces l pieces) is are)
+shows_texts false r p m bytes pieces is are = λ count sum. (pieces, subst (λ (l : List ℕ). ArePieces l pieces) (is count sum) are, refl)
 
 -- what was written where a part began, counted in the same run
 pub counted_there : (d e : Debugger) (from written : ℕ) → from ≡ d.place → written ≡ (shown d).written → e.run ≡ d.run → written ≡ (state e.run from).written

@@ -3,7 +3,7 @@ use Rattle.std.proofs.Common.{◌≡◌, ℕ, zero, suc, ◌+◌, ◌-◌, ◌*�
 use Rattle.std.specs.Prelude.{unwrap_or}
 use Rattle.std.specs.Option.{option_and_then}
 use Rattle.std.specs.List.{flat_map}
-use Rattle.std.proofs.lemmas.List.Elements.{All-nil, All-cons, All-append}
+use Rattle.std.proofs.lemmas.List.Elements.{All-nil, All-cons, All-append, All-head}
 use Rattle.rv_pages.specs.Memory.{Memory, byte_at, bytes_at, followed_by, word_at}
 use Rattle.rv_decode.specs.declared.instruction.Inst.{Inst}
 use Rattle.rv_decode.specs.declared.instruction.Inst.TheVariants.{Ecall}
@@ -112,6 +112,14 @@ is_few piece = length piece ≤ 4096
 
 pub no_pieces : ArePieces [] []
 no_pieces = record { whole = refl; some = All-nil is_some; few = All-nil is_few }
+
+-- what is shown of no bytes
+pub none_of_none : (pieces : List (List ℕ)) → ArePieces [] pieces → map console_text pieces ≡ []
+none_of_none [] h = refl
+none_of_none (piece ∷ pieces) h =
+    let some = All-head is_some piece pieces h.some in
+    let size : 0 ≡ length piece + length (flat_map (λ p. p) pieces) = ap length h.whole ∙ length-append piece (flat_map (λ p. p) pieces) in
+    absurd (omega (arith, some, size))
 
 pub one_piece : (piece : List ℕ) → 0 < length piece → length piece ≤ 4096 → ArePieces piece (piece ∷ [])
 one_piece piece some few = record { whole = sym (append-nil piece); some = All-cons is_some piece [] some (All-nil is_some); few = All-cons is_few piece [] few (All-nil is_few) }

@@ -7,7 +7,7 @@ use Rattle.rv_machine.specs.Output.{outputs}
 use Rattle.gdb_wire.specs.declared.request.Motion.{Motion}
 use Rattle.gdb_wire.specs.declared.request.Motion.TheVariants as motion
 use Rattle.gdb_replies.specs.StateWords.{hexadecimal, ending_line}
-use Rattle.run_timeline.specs.Moves.{Run, StopList, state, EndsForward, EndsBackward, CameOn, CameBack, step_ahead, step_behind, steps_of}
+use Rattle.run_timeline.specs.Moves.{Run, StopList, state, EndsForward, EndsBackward, CameForward, CameBackward, step_ahead, step_behind, steps_of}
 use Rattle.run_timeline.specs.declared.stops.Hit.{Hit}
 use Rattle.run_timeline.specs.declared.stops.Hit.TheVariants.{Break, Watch}
 use Rattle.run_timeline.specs.declared.ranges.Range.{Range}
@@ -33,9 +33,9 @@ step_halt End otherwise = otherwise
 abbrev pub Leads : Run → StopList → Motion → ℕ → ℕ → Halt → Type 0
 Leads r stops motion.Step p m halt = (m ≡ p + steps_of (step_ahead r stops p)) × (halt ≡ step_halt (step_ahead r stops p) AtEnd)
 Leads r stops motion.StepBack p m halt = (m + steps_of (step_behind r stops p) ≡ p) × (halt ≡ step_halt (step_behind r stops p) AtBeginning)
-Leads r stops motion.Continue p m Interrupted = CameOn r stops p m
+Leads r stops motion.Continue p m Interrupted = CameForward r stops p m
 Leads r stops motion.Continue p m halt = (hit : Option Hit) × EndsForward r stops p m hit × (halt ≡ hit_halt hit AtEnd)
-Leads r stops motion.ContinueBack p m Interrupted = CameBack r stops p m
+Leads r stops motion.ContinueBack p m Interrupted = CameBackward r stops p m
 Leads r stops motion.ContinueBack p m halt = (hit : Option Hit) × EndsBackward r stops p m hit × (halt ≡ hit_halt hit AtBeginning)
 
 -- ---- replies
@@ -61,6 +61,11 @@ pub record ArePieces (text : List ℕ) (pieces : List (List ℕ)) : Type 0 where
   pub whole : text ≡ flat_map (λ piece. piece) pieces
   pub some : All (λ piece. 0 < length piece) pieces
   pub few : All (λ piece. length piece ≤ 4096) pieces
+
+-- the bytes of the program's output that gdb shows on a way forward, none while it is off
+abbrev pub ShowsBytes : Bool → Run → ℕ → ℕ → List ℕ → Type 0
+ShowsBytes true r p m bytes = bytes ≡ []
+ShowsBytes false r p m bytes = (count : ℕ) → m ≡ p + count → bytes ≡ output_from r p count
 
 -- Gdb shows the program's output on a way forward, unless it is off: these are the texts.
 abbrev pub Shows : Bool → Run → ℕ → ℕ → List (List ℕ) → Type 0

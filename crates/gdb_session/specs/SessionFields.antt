@@ -3,7 +3,7 @@ use Rattle.std.specs.Prelude.{ℕ, ◌<◌, Bool, List, refl}
 use Rattle.std.specs.Coded.{Coded, code_by, coded×, coded_ℕ, coded_bool, coded_list}
 use Rattle.gdb_wire.specs.declared.request.Request.{Request}
 use Rattle.gdb_wire.specs.declared.request.Request.TheVariants.{Move, Kill}
-use Rattle.run_timeline.specs.Moves.{Run, StopList, CameOn}
+use Rattle.run_timeline.specs.Moves.{Run, StopList, CameForward}
 use Rattle.run_timeline.specs.WalkState.{run_code}
 use Rattle.run_timeline.specs.declared.ranges.Range.{Range}
 use Rattle.gdb_session.specs.declared.server.ServeFault.{ServeFault}
@@ -40,7 +40,7 @@ IsAnswered _ = Unit {0}
 
 -- a move forward that began before the place has come to it
 abbrev pub CameHere : Debugger → Type 0
-CameHere d = (p : ℕ) × (p < d.place) × CameOn d.run d.stops p d.place
+CameHere d = (p : ℕ) × (p < d.place) × CameForward d.run d.stops p d.place
 
 -- what ends a conversation where an answer can't go
 abbrev pub serve_fault : TalkFault → ServeFault

@@ -3,7 +3,7 @@ ghost use Rattle.std.specs.Prelude.{◌≡◌, ◌<◌, ◌≤◌, ◌++◌, ℕ
 ghost use Rattle.std.specs.List.{flat_map};
 ghost use Rattle.keepers.specs.Prelude.{Rose, Tells};
 ghost use Rattle.gdb_wire.specs.Prelude.{reply_packet};
-ghost use Rattle.run_timeline.specs.Prelude.{state, CameOn, EndsForward, MatchPart};
+ghost use Rattle.run_timeline.specs.Prelude.{state, CameForward, EndsForward, MatchPart};
 ghost use Rattle.gdb_wire.specs.declared.request.Motion.TheVariants as motion;
 ghost use Rattle.gdb_session.specs.declared.halt.Halt.TheVariants as halt;
 ghost use Rattle.gdb_session.specs.declared.server.TalkFault.TheVariants as talk;
@@ -66,23 +66,23 @@ impl Server {
         self.session.is_within();
         match motion {
             Motion::Step => {
-                let halt = self.step_on(steps)?;
+                let halt = self.step_forward(steps)?;
                 Ok(halt)
             }
             Motion::StepBack => Ok(self.step_back(steps)),
-            Motion::Continue => self.run_on(line, steps),
+            Motion::Continue => self.run_forward(line, steps),
             Motion::ContinueBack => self.run_back(line, steps),
         }
     }
 
-    fn step_on<L: Ledger>(&mut self, steps: &mut Steps<L>) -> Result<Halt, AllocError>
+    fn step_forward<L: Ledger>(&mut self, steps: &mut Steps<L>) -> Result<Halt, AllocError>
         ensures moved { IfOk result (λ halt. (written : List (List ℕ)) × IsMoved self.old self.new motion.Step halt written
             × (self.new.out.items ≡ self.old.out.items ++ flat_map reply_packet written)) }
         ensures held { self.new.held.items ≡ self.old.held.items }
     {
         let from = self.session.place();
         let written = self.session.written();
-        let step = self.session.step_on(steps);
+        let step = self.session.step_forward(steps);
         self.push_output(from, written, steps)?;
         Ok(halt_of_step(step, Halt::AtEnd))
     }
@@ -97,7 +97,7 @@ impl Server {
     }
 
     // Goes on until something is hit, the run ends, or gdb interrupts it.
-    fn run_on<N: Line, L: Ledger>(
+    fn run_forward<N: Line, L: Ledger>(
         &mut self,
         line: &mut N,
         steps: &mut Steps<L>,
@@ -129,14 +129,14 @@ impl Server {
     fn first_part<L: Ledger>(&mut self, steps: &mut Steps<L>) -> Result<Part, AllocError>
         ensures shown { OnOk result ((written : List (List ℕ)) × IsShown self.old self.new written × (self.new.out.items ≡ self.old.out.items ++ flat_map reply_packet written)) }
         ensures ends { IfOk result (λ part. MatchPart part (EndsForward self.old.session.run self.old.session.stops self.old.session.place self.new.session.place)
-            (CameOn self.old.session.run self.old.session.stops self.old.session.place self.new.session.place)) }
+            (CameForward self.old.session.run self.old.session.stops self.old.session.place self.new.session.place)) }
         ensures further { IfOk result (λ part. MatchPart part (λ _. ⊤) (self.old.session.place < self.new.session.place)) }
         ensures within { self.new.session.place ≤ self.old.session.run.most }
         ensures held { self.new.held.items ≡ self.old.held.items }
     {
         let from = self.session.place();
         let written = self.session.written();
-        let part = self.session.begin_on(steps);
+        let part = self.session.begin_forward(steps);
         self.push_output(from, written, steps)?;
         Ok(part)
     }
@@ -145,8 +145,8 @@ impl Server {
     fn next_part<L: Ledger>(&mut self, steps: &mut Steps<L>) -> Result<Part, AllocError>
         requires { CameHere self.old.session }
         ensures shown { OnOk result ((written : List (List ℕ)) × IsShown self.old self.new written × (self.new.out.items ≡ self.old.out.items ++ flat_map reply_packet written)) }
-        ensures ends { IfOk result (λ part. (p : ℕ) → p < self.old.session.place → CameOn self.old.session.run self.old.session.stops p self.old.session.place →
-            MatchPart part (EndsForward self.old.session.run self.old.session.stops p self.new.session.place) (CameOn self.old.session.run self.old.session.stops p self.new.session.place)) }
+        ensures ends { IfOk result (λ part. (p : ℕ) → p < self.old.session.place → CameForward self.old.session.run self.old.session.stops p self.old.session.place →
+            MatchPart part (EndsForward self.old.session.run self.old.session.stops p self.new.session.place) (CameForward self.old.session.run self.old.session.stops p self.new.session.place)) }
         ensures further { IfOk result (λ part. MatchPart part (λ _. ⊤) (self.old.session.place < self.new.session.place)) }
         ensures order { self.old.session.place ≤ self.new.session.place }
         ensures within { self.new.session.place ≤ self.old.session.run.most }
@@ -154,7 +154,7 @@ impl Server {
     {
         let from = self.session.place();
         let written = self.session.written();
-        let part = self.session.look_on(steps);
+        let part = self.session.look_forward(steps);
         self.push_output(from, written, steps)?;
         Ok(part)
     }
@@ -217,16 +217,7 @@ impl Server {
             × (self.new.out.items ≡ self.old.out.items ++ flat_map reply_packet texts) × (self.new.last.items ≡ last_packet self.old.last.items texts)) }
         ensures same { SaysReply self.old self.new }
     {
-        let quiet = self.session.is_quiet();
-        if quiet {
-            return Ok(());
-        }
-        self.session.is_machine_run();
-        let now = self.session.written();
-        if now == written {
-            return Ok(());
-        }
-        let bytes = self.session.outputs_from(self.alloc, from, steps)?;
+        let bytes = self.session.output_since(self.alloc, from, written, steps)?;
         self.push_pieces(bytes.as_slice())
     }
 

@@ -3,13 +3,13 @@ ghost use Rattle.std.specs.Prelude.{◌≡◌, ◌<◌, ◌≤◌, ◌+◌, ℕ,
 ghost use Rattle.std.specs.Option.{option_map_or};
 ghost use Rattle.input_journal.specs.Prelude.{IsRecorded};
 ghost use Rattle.rv_machine.specs.Prelude.{IsMachineState};
-ghost use Rattle.run_timeline.specs.Prelude.{CameBack, CameOn, EndsBackward, EndsForward, step_ahead, step_behind, steps_of, MatchPart};
+ghost use Rattle.run_timeline.specs.Prelude.{CameBackward, CameForward, EndsBackward, EndsForward, state, step_ahead, step_behind, steps_of, MatchPart};
 ghost use Rattle.gdb_replies.specs.declared.command.Command.{Command};
 ghost use Rattle.gdb_replies.specs.Prelude.{IsCommand, ending_line, hexadecimal, place_line};
 ghost use Rattle.gdb_session.specs.Answers.{Answers, GoesTo, Obeys, piece_text, shown_text};
 ghost use Rattle.gdb_session.specs.Debugger.{new_debugger, shown as shown_state, inserted, removed, with_one, without_one, Debugger};
 ghost use Rattle.gdb_session.specs.declared.halt.Halt.TheVariants.{AtWrite};
-ghost use Rattle.gdb_session.specs.Moves.{halt_text, output_from};
+ghost use Rattle.gdb_session.specs.Moves.{halt_text, ShowsBytes};
 ghost use Rattle.gdb_session.specs.SessionFields.{CameHere, IsAnswered, debugger, debugger_code};
 
 use crate::halt::Halt;
@@ -85,21 +85,14 @@ impl Session {
         self.timeline.are_places();
     }
 
-    /// Does nothing. Its contract is a law: the run is one of a machine, over recorded input.
-    pub(crate) fn is_machine_run(&self)
+    // Does nothing. Its contract is a law: the run is one of a machine, over recorded input.
+    fn is_machine_run(&self)
         ensures first { IsMachineState self.now.run.first }
         ensures recorded { IsRecorded self.now.run.journal }
         ensures small { self.now.place < 2 ^ 32 }
     {
         self.timeline.is_machine_run();
         let _place = self.timeline.place();
-    }
-
-    /// Whether the program's output is off.
-    pub(crate) fn is_quiet(&self) -> bool
-        ensures { result ≡ self.now.quiet }
-    {
-        self.quiet
     }
 
     /// How many bytes the program had written up to the shown state, modulo 2 ^ 64.
@@ -110,11 +103,11 @@ impl Session {
     }
 
     /// Goes on by a step, if there is one and it writes no watched byte.
-    pub(crate) fn step_on<L: Ledger>(&mut self, steps: &mut Steps<L>) -> Step
+    pub(crate) fn step_forward<L: Ledger>(&mut self, steps: &mut Steps<L>) -> Step
         ensures value { result ≡ step_ahead self.old.run self.old.stops self.old.place }
         ensures goes { self.new ≡ record self.old { place = self.old.place + steps_of result } }
     {
-        self.timeline.step_on(&self.stops, steps)
+        self.timeline.step_forward(&self.stops, steps)
     }
 
     /// Goes back by a step, if there is one and it wrote no watched byte.
@@ -127,30 +120,30 @@ impl Session {
     }
 
     /// Begins a move forward.
-    pub(crate) fn begin_on<L: Ledger>(&mut self, steps: &mut Steps<L>) -> Part
-        ensures ends { MatchPart result (EndsForward self.old.run self.old.stops self.old.place self.new.place) (CameOn self.old.run self.old.stops self.old.place self.new.place) }
+    pub(crate) fn begin_forward<L: Ledger>(&mut self, steps: &mut Steps<L>) -> Part
+        ensures ends { MatchPart result (EndsForward self.old.run self.old.stops self.old.place self.new.place) (CameForward self.old.run self.old.stops self.old.place self.new.place) }
         ensures further { MatchPart result (λ _. ⊤) (self.old.place < self.new.place) }
         ensures order { self.old.place ≤ self.new.place }
         ensures within { self.new.place ≤ self.old.run.most }
         ensures stays { self.new ≡ record self.old { place = self.new.place } }
     {
-        let part = self.timeline.begin_on(&self.stops, steps);
+        let part = self.timeline.begin_forward(&self.stops, steps);
         self.timeline.are_places();
         part
     }
 
     /// Continues a move forward that began elsewhere.
-    pub(crate) fn look_on<L: Ledger>(&mut self, steps: &mut Steps<L>) -> Part
+    pub(crate) fn look_forward<L: Ledger>(&mut self, steps: &mut Steps<L>) -> Part
         requires { CameHere self.old }
-        ensures ends { (p : ℕ) → p < self.old.place → CameOn self.old.run self.old.stops p self.old.place →
-            MatchPart result (EndsForward self.old.run self.old.stops p self.new.place) (CameOn self.old.run self.old.stops p self.new.place) }
+        ensures ends { (p : ℕ) → p < self.old.place → CameForward self.old.run self.old.stops p self.old.place →
+            MatchPart result (EndsForward self.old.run self.old.stops p self.new.place) (CameForward self.old.run self.old.stops p self.new.place) }
         ensures further { MatchPart result (λ _. ⊤) (self.old.place < self.new.place) }
         ensures order { self.old.place ≤ self.new.place }
         ensures within { self.new.place ≤ self.old.run.most }
         ensures stays { self.new ≡ record self.old { place = self.new.place } }
     {
         self.timeline.are_places();
-        let part = self.timeline.look_on(&self.stops, steps);
+        let part = self.timeline.look_forward(&self.stops, steps);
         self.timeline.are_places();
         part
     }
@@ -165,7 +158,7 @@ impl Session {
         requires some { 0 < end }
         requires known { end ≤ self.old.place }
         ensures from { result.0 < end }
-        ensures ends { MatchOption result.1 (CameBack self.old.run self.old.stops end result.0)
+        ensures ends { MatchOption result.1 (CameBackward self.old.run self.old.stops end result.0)
             (λ found. EndsBackward self.old.run self.old.stops end found.0 (Some found.1)) }
         ensures stays { self.new ≡ record self.old { place = end } }
     {
@@ -173,17 +166,24 @@ impl Session {
         self.timeline.look_back(end, &self.stops, steps)
     }
 
-    /// The bytes that the program wrote on the way from a place.
-    pub(crate) fn outputs_from<L: Ledger>(
+    /// The bytes to show of what the program wrote on the way from a place. Up to there it had written `written` bytes.
+    pub(crate) fn output_since<L: Ledger>(
         &mut self,
         alloc: Global,
         from: u32,
+        written: u64,
         steps: &mut Steps<L>,
     ) -> Result<Vec<u8>, AllocError>
-        requires { from ≤ self.old.place }
-        ensures bytes { IfOk result (λ bytes. (n : ℕ) → self.old.place ≡ from + n → bytes.items ≡ output_from self.old.run from n) }
+        requires behind { from ≤ self.old.place }
+        requires counted { written ≡ (state self.old.run from).written }
+        ensures bytes { IfOk result (λ bytes. ShowsBytes self.old.quiet self.old.run from self.old.place bytes.items) }
         ensures stays { self.new ≡ self.old }
     {
+        self.is_machine_run();
+        let now = self.written();
+        if self.quiet || now == written {
+            return Ok(Vec::new(alloc));
+        }
         self.timeline.outputs_from(alloc, from, steps)
     }
 

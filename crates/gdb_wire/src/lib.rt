@@ -1,4 +1,4 @@
-//! The text between gdb and a server of its remote serial protocol. It uses no other crate. `gdb_replies` uses it. It
+//! The text between gdb and a server of its remote serial protocol. It uses no other crate. `gdb_replies` and `gdb_session` use it. It
 //! covers the items on a line, what a packet asks for, and how a reply is framed.
 //!
 //! Read `specs/` in this order:

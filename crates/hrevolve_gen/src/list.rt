@@ -1,4 +1,4 @@
-// The whole list.
+// The list of H-Revolve for a book, read from its tables.
 ghost use Rattle.std.specs.Prelude.{◌≡◌, ◌≢◌, ◌↔◌, ◌<◌, true, length, IfOk, IfErr, OnOk};
 ghost use Rattle.level_book.specs.Prelude.{slots_of, cost, Nested, number, never, top_entry};
 ghost use Rattle.cost_tables.specs.Prelude.{AreGreatestFor, tables_in};

@@ -1,3 +1,5 @@
+// A stretch of a list, and the slots that are free for it.
+
 /// So many steps of a run from state `first` on. So many slots of level `level` are free for them, and the lower levels'
 /// slots too.
 #[derive(Clone, Copy)]

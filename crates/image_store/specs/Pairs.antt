@@ -1,4 +1,4 @@
--- The pairs of a level by their state's number: their slots, and what is kept of their bytes.
+-- The stored images of a level, by their state's number: slot, length and digest. An image with its number is a pair.
 use Rattle.std.specs.Prelude.{◌≡◌, ◌≢◌, ℕ, List, slice_index_or, Option, None, Some, is_some}
 use Rattle.std.specs.List.{count_by}
 use Rattle.image_store.specs.declared.shelf.Kept.{Kept}

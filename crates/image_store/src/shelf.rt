@@ -1,4 +1,4 @@
-// The pairs of one level.
+// The stored images of one level: the slot and digest of each, by its state's number.
 ghost use Rattle.std.specs.Prelude.{◌≡◌, ◌<◌, Some, IsSome, IfOk, length};
 ghost use Rattle.image_store.specs.Pairs.{pair_at};
 ghost use Rattle.image_store.specs.Shelves.{no_pairs, ShelfState};

@@ -1,4 +1,4 @@
-// The pairs of all levels.
+// The stored images of all levels.
 ghost use Rattle.std.specs.Prelude.{◌≡◌, ℕ, ◌<◌, length, slice_set, Some, IfOk, OnErr, List};
 ghost use Rattle.std.specs.FinMap as finmap;
 ghost use Rattle.level_book.specs.Prelude.{slots_of};

@@ -1,4 +1,4 @@
--- No bytes begin any bytes.
+-- The empty list is a prefix of every list of bytes.
 use Rattle.std.proofs.Common.{◌≡◌, ℕ, List, [], ◌++◌, Option, None, Some, sym, ap}
 use Rattle.keepers.specs.Claims.{WhereTold, Begins}
 

@@ -6,7 +6,7 @@ ghost use Rattle.unit_undo.specs.Prelude.{LeadsBack, led_back, HasSteps, IsMadeF
 use crate::states::first_state;
 use input_journal::{Journal, read_journal};
 use rv_machine::{State, Status, Steps, step};
-use std::alloc::Global;
+use std::alloc::{AllocError, Global};
 use std::marker::Brand;
 use std::process::Abort;
 use std::sync::ledger::{Blank, Ledger};
@@ -65,39 +65,72 @@ fn go_back(undo: &mut Undo, state: &mut State)
     }
 }
 
-// Goes through so many units, and back over each of them.
-fn go_there_and_back<L: Ledger>(
+// Goes through a unit and back over it, and stays at its end.
+fn check_unit<L: Ledger>(
+    rt: &impl Abort,
+    undo: &mut Undo,
+    state: &mut State,
+    journal: &Journal,
+    unit: u32,
+    steps: &mut Steps<L>,
+) -> Result<(), AllocError>
+    requires made { IsMadeFor journal.now undo.old }
+    requires few { unit ≤ undo.old.unit }
+    ensures { (undo.new.unit ≡ undo.old.unit) × (undo.new.room ≡ undo.old.room) }
+{
+    let before = state.clone()?;
+    take(undo, state, journal, unit, steps);
+    assert_eq!(rt; undo.count(), unit);
+    let after = state.clone()?;
+    go_back(undo, state);
+    check_same(rt, state, &before);
+    *state = after;
+    Ok(())
+}
+
+// The program has read both items, and exited.
+fn check_end(rt: &impl Abort, state: &State) {
+    assert_eq!(rt; (state.pc, state.status), (0x10030, Status::Exited(0)));
+    assert_eq!(rt; (state.item, state.pages.load32(0x12004)), (2, Some(2)));
+}
+
+// Goes through so many units from the start on, and back over each of them.
+fn check_units<L: Ledger>(
     rt: &impl Abort,
     alloc: Global,
     journal: &Journal,
     unit: u32,
     units: u32,
-    blank: Blank,
-) -> Result<(), Fail>
-    requires ledger { IsBlankOf blank.name blank.parts L.name L.parts }
-    requires unit { (1 ≤ unit) × (unit ≤ 1024) }
+    steps: &mut Steps<L>,
+) -> Result<(), AllocError>
+    requires { (1 ≤ unit) × (unit ≤ 1024) }
 {
-    let mut steps = Steps::<L>::new(blank);
     let mut state = first_state(rt, alloc, &[0x10, 0x11, 0x12], &COUNTING, 0)?;
     let mut undo = Undo::begin(alloc, unit, journal)?;
     for _ in 0..units {
-        let before = state.clone()?;
-        take(&mut undo, &mut state, journal, unit, &mut steps);
-        assert_eq!(rt; undo.count(), unit);
-        let after = state.clone()?;
-        go_back(&mut undo, &mut state);
-        check_same(rt, &state, &before);
-        state = after;
+        check_unit(rt, &mut undo, &mut state, journal, unit, steps)?;
     }
-    assert_eq!(rt; (state.pc, state.status), (0x10030, Status::Exited(0)));
-    assert_eq!(rt; (state.item, state.pages.load32(0x12004)), (2, Some(2)));
+    check_end(rt, &state);
     Ok(())
+}
+
+// Goes through the program by units of one step, of two, and of 1,024.
+fn go_there_and_back<L: Ledger>(
+    rt: &impl Abort,
+    alloc: Global,
+    journal: &Journal,
+    blank: Blank,
+) -> Result<(), AllocError>
+    requires { IsBlankOf blank.name blank.parts L.name L.parts }
+{
+    let mut steps = Steps::<L>::new(blank);
+    check_units(rt, alloc, journal, 1, 30, &mut steps)?;
+    check_units(rt, alloc, journal, 2, 15, &mut steps)?;
+    check_units(rt, alloc, journal, 1024, 1, &mut steps)
 }
 
 #[test]
 fn units_are_undone(rt: HostRuntime) -> Result<(), Fail> {
     let journal = read_journal(rt.alloc(), Vec::from_slice(rt.alloc(), JOURNAL)?)?;
-    go_there_and_back::<Brand>(&rt, rt.alloc(), &journal, 1, 30, Blank::new(1))?;
-    go_there_and_back::<Brand>(&rt, rt.alloc(), &journal, 2, 15, Blank::new(1))?;
-    go_there_and_back::<Brand>(&rt, rt.alloc(), &journal, 1024, 1, Blank::new(1))
+    Ok(go_there_and_back::<Brand>(&rt, rt.alloc(), &journal, Blank::new(1))?)
 }

@@ -1,5 +1,4 @@
--- No public clause cites this file. What the reader of options computes, as functions on lists, and the option that one in
--- memory is.
+-- What the reader of options computes, as functions on lists, and the option that one in memory is.
 use Rattle.std.specs.Prelude.{ℕ, ◌==◌, Bool, true, not, ◌&&◌, if◌then◌else◌, List, [], ◌∷◌, length, codes, find, Option, None, Some, unwrap_or}
 use Rattle.std.specs.List.{list_any}
 use Rattle.std.specs.Str.{bytes_eq}

@@ -1,4 +1,4 @@
--- No public clause cites this file. The request that the reader of words returns, and the request of one in memory.
+-- The request that the reader of words returns, and the request of one in memory.
 use Rattle.std.specs.Prelude.{ℕ, ◌*◌, if◌then◌else◌, List, [], ◌∷◌, Option, None, Some}
 use Rattle.std.specs.Option.{option_map}
 use Rattle.requests.specs.declared.request.Run as run_in_memory

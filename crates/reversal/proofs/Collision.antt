@@ -21,7 +21,7 @@ use Rattle.reverse_runner.specs.StateOrder.{handed_by, handed, countdown}
 use Rattle.reverse_runner.proofs.StateOrder.{valid_hands}
 use Rattle.reverse_queries.specs.Collision.{CollidesOn}
 use Rattle.reverse_queries.specs.HoldingsTrace.{HaveOut}
-use Rattle.reverse_queries.specs.ListPerformance.{IsOut}
+use Rattle.reverse_queries.specs.ListExecution.{IsOut}
 use Rattle.reverse_queries.specs.Queries.{WritesIn, ChangesIn, IsLast, front_to, up_to}
 use Rattle.reverse_queries.proofs.Collision.{run_or_collides, out_by_digests, state_or_collides, write_or_collides, change_or_collides}
 use Rattle.requests.specs.declared.question.Question.TheVariants.{State}

@@ -9,7 +9,7 @@ use Rattle.reverse_runner.specs.declared.fault.RunFault.TheVariants.{Visitor, En
 use Rattle.reverse_runner.specs.KeepersSeen.{told_by, calls_to}
 use Rattle.reverse_runner.specs.SessionState.{SessionState}
 use Rattle.reverse_runner.proofs.KeeperCalls.{past_others}
-use Rattle.reverse_queries.specs.ListPerformance.{AwaitsList, done_after, RefusedIn}
+use Rattle.reverse_queries.specs.ListExecution.{AwaitsList, done_after, RefusedIn}
 use Rattle.reverse_queries.specs.QuestionEffects.{FindsLast}
 use Rattle.endings.specs.declared.outcome.Outcome.{Outcome}
 use Rattle.endings.specs.Endings.{status_of}

@@ -9,7 +9,7 @@ use Rattle.plan_types.specs.declared.action.Action.{Action}
 use Rattle.plan_types.specs.declared.action.Action.TheVariants.{Forward, Reverse, Copy, Move, EndForward, EndReverse}
 use Rattle.image_store.specs.StoredImages.{IsToldAnd}
 use Rattle.reverse_runner.specs.ActionEffects.{Holdings, Acts}
-use Rattle.reverse_queries.specs.ListPerformance.{IsOut}
+use Rattle.reverse_queries.specs.ListExecution.{IsOut}
 use Rattle.reverse_runner.specs.KeeperContents.{HoldsJust}
 use Rattle.reverse_runner.specs.RefusalResidue.{Spares, NotReached, MayLeave, HoldsBesides, HoldsAllBut}
 use Rattle.reverse_runner.specs.HoldingsOfRun.{AreAlone}

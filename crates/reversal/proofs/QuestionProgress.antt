@@ -20,7 +20,7 @@ use Rattle.reverse_runner.specs.SessionState.{SessionState, holdings_of}
 use Rattle.reverse_runner.specs.SessionOfRun.{begun}
 use Rattle.schedule_rules.proofs.VerdictReasons.{take_one_more}
 use Rattle.reverse_queries.specs.Queries.{hands_out, front_to, up_to, IsLast}
-use Rattle.reverse_queries.specs.ListPerformance.{calls_of_all, done_after, IsOut, FaultFits, RefusedIn}
+use Rattle.reverse_queries.specs.ListExecution.{calls_of_all, done_after, IsOut, FaultFits, RefusedIn}
 use Rattle.endings.specs.declared.outcome.Outcome.{Outcome}
 use Rattle.endings.specs.Outcomes.{done, stopped, keeper_failed, damaged}
 use Rattle.requests.proofs.Lists.{get_map}

@@ -3,7 +3,7 @@ use Rattle.std.specs.Prelude.{◌≡◌, ℕ, ◌++◌, List, [], ◌∷◌, len
 use Rattle.requests.specs.declared.question.Question.{Question}
 use Rattle.level_book.specs.CostFold.{forward}
 use Rattle.reverse_queries.specs.Queries.{WritesIn, ChangesIn, IsLast, front_to, up_to}
-use Rattle.reverse_queries.specs.ListPerformance.{IsOut}
+use Rattle.reverse_queries.specs.ListExecution.{IsOut}
 use Rattle.requests.specs.declared.question.Question.TheVariants.{State, LastWrite, LastChange}
 use Rattle.reversal.specs.Job.{Run, last_of, state_of}
 use Rattle.reversal.specs.Output.{line_of}

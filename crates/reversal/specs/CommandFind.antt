@@ -1,7 +1,7 @@
 -- `ask find`: the last state of a run with a digest, found by workers.
 use Rattle.std.specs.Prelude.{ℕ, List, [], ◌∷◌, Option}
 use Rattle.rv_machine.specs.MachineState.{MachineState}
-use Rattle.segment_sweep.specs.LastMatch.{Quest, Found}
+use Rattle.segment_sweep.specs.LastMatch.{Query, Found}
 use Rattle.segment_sweep.specs.MarkedRun.{last_start}
 use Rattle.requests.specs.Request.{Choice, worker_count}
 use Rattle.reversal.specs.Job.{seek}
@@ -17,7 +17,7 @@ find_table options steps digest program journal =
     over_program options program journal (λ start items. does (seek start items steps (worker_count options) digest))
 
 -- what is looked for: states 0 to `steps` of a run from this one
-abbrev pub quest_of : MachineState → List (List ℕ) → ℕ → List ℕ → Quest
+abbrev pub quest_of : MachineState → List (List ℕ) → ℕ → List ℕ → Query
 quest_of first journal steps digest = record { start = first; journal = journal; digest = digest; count = steps }
 
 -- The steps to the start of the last segment are taken; each worker has a segment. If memory runs out, only some of

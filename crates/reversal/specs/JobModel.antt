@@ -23,7 +23,7 @@ use Rattle.reversal.specs.declared.job.Job as in_memory
 use Rattle.reversal.specs.declared.job.Job.TheVariants.{Perform, Ask, Find, Write, Bytes, Report, Plan, List as ListWords, Console, Demonstrate}
 use Rattle.reversal.specs.declared.planning.Plan as plan_in_memory
 use Rattle.reversal.specs.declared.demo.Demonstration as demo_in_memory
-use Rattle.reversal.specs.declared.job.Performance.{Performance}
+use Rattle.reversal.specs.declared.job.Execution.{Execution}
 use Rattle.reversal.specs.declared.asking.Asking.{Asking}
 use Rattle.reversal.specs.declared.asking.Over.{Over}
 use Rattle.reversal.specs.declared.finding.Finding.{Finding}
@@ -65,9 +65,9 @@ certificate_pieces (Some c) = certificate.pieces c
 abbrev pub pieces_of : plan_in_memory.Plan → List (List ℕ)
 pieces_of p = list_pieces (names_of p.book) (left_of p.actions) ++ certificate_pieces p.certificate
 
--- what a performance and a question go over
-abbrev pub performed_run : Performance → Run
-performed_run p = in_units p.unit p.start p.journal p.steps (slots_of p.book) (left_of p.actions)
+-- what a execution and a question go over
+abbrev pub executed_run : Execution → Run
+executed_run p = in_units p.unit p.start p.journal p.steps (slots_of p.book) (left_of p.actions)
 
 abbrev pub run_over : Over → Run
 run_over o = in_units o.unit o.start o.journal o.steps (slots_of o.book) o.list.items
@@ -81,7 +81,7 @@ abbrev pub moves : ConsoleRun → Job
 moves m = console m.run.start m.run.journal (plan_of m.run) m.orders.items
 
 abbrev pub job_of : in_memory.Job → Job
-job_of (Perform p) = perform (performed_run p)
+job_of (Perform p) = perform (executed_run p)
 job_of (Ask a) = ask a.question (run_over a.over)
 job_of (Find f) = seek f.start f.journal f.steps f.workers f.digest
 job_of (Write text) = write (text ∷ [])
@@ -93,7 +93,7 @@ job_of (Console m) = moves m
 job_of (Demonstrate d) = demonstrate d.number d.start d.steps d.slots
 
 -- a list that is performed is valid
-pub record IsPerformable (p : Performance) : Type 0 where
+pub record IsExecutable (p : Execution) : Type 0 where
   pub steps : p.steps ≤ MOST_STEPS
   pub unit : (1 ≤ p.unit) × (p.unit ≤ 1024)
   pub instructions : p.unit * p.steps ≤ MOST_STEPS
@@ -135,7 +135,7 @@ pub record CanAnswerOrders (m : ConsoleRun) : Type 0 where
   pub orders : (i : ℕ) (order : Order) → slice_get m.orders.items i ≡ Some order → IsOrder m.run.count order
 
 abbrev pub CanBeDone : in_memory.Job → Type 0
-CanBeDone (Perform p) = IsPerformable p
+CanBeDone (Perform p) = IsExecutable p
 CanBeDone (Ask a) = CanBeAsked a
 CanBeDone (Find f) = IsSearchable f
 CanBeDone (Write text) = Unit {0}

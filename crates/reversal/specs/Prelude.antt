@@ -6,7 +6,7 @@ pub use Rattle.reversal.specs.Table.{Decided, Decision, IsFirstWide, Keep, accep
 pub use Rattle.reversal.specs.CommandRun.{performing}
 pub use Rattle.reversal.specs.Decision.{Comes, Decides, DecidesLoaded, EndsBy, HaveRoomsFor, IsOfJob, KeepsOthers, StayInPlace, course_of}
 pub use Rattle.reversal.specs.ActionsLeft.{left_of}
-pub use Rattle.reversal.specs.JobModel.{CanAnswerOrders, CanBeAsked, CanBeDone, Does, DoesBegun, HasWorkers, IsBegun, IsDecided, IsDecidedOver, IsOver, IsPerformable, IsRefusal, IsSearchable, IsShowable, IsUnbegun, IsUnjudged, IsWritable, KeepersHaveRoom, RunFits, Works, WritesAnswer, certificate_pieces, fault_ending, job_of, moves, performed_run, pieces_of, run_from, run_over, text_of}
+pub use Rattle.reversal.specs.JobModel.{CanAnswerOrders, CanBeAsked, CanBeDone, Does, DoesBegun, HasWorkers, IsBegun, IsDecided, IsDecidedOver, IsOver, IsExecutable, IsRefusal, IsSearchable, IsShowable, IsUnbegun, IsUnjudged, IsWritable, KeepersHaveRoom, RunFits, Works, WritesAnswer, certificate_pieces, fault_ending, job_of, moves, executed_run, pieces_of, run_from, run_over, text_of}
 pub use Rattle.reversal.specs.CommandAsm.{DecidesAsm, DecidesDisasm, word_bytes}
 pub use Rattle.reversal.specs.CommandCertify.{DecidesCertify, least_line}
 pub use Rattle.reversal.specs.CommandConsole.{AnyMark, AreOfOrders, DecidesConsole, WentAbout, WritesAnswers, console_course, of_run}

@@ -16,7 +16,7 @@ use Rattle.reverse_runner.specs.SessionState.{holdings_of}
 use Rattle.reverse_runner.specs.SessionOfRun.{IsDamage, begun, pair_read}
 use Rattle.reverse_queries.specs.Queries.{up_to}
 use Rattle.reverse_queries.specs.HoldingsTrace.{GoesThrough, IsFoundOn}
-use Rattle.reverse_queries.specs.ListPerformance.{IsOut}
+use Rattle.reverse_queries.specs.ListExecution.{IsOut}
 use Rattle.reversal.specs.Job.{Run, last_of, state_of, unit_state}
 use Rattle.reversal.specs.Moment.{Moment, AllTell, AllEmpty}
 use Rattle.reversal.specs.Deeds.{States}

@@ -17,7 +17,7 @@ use crate::console::decide_console;
 use crate::cost::decide_cost;
 use crate::demo::decide_demo;
 use crate::finding::decide_find;
-use crate::job::{Job, Performance};
+use crate::job::{Execution, Job};
 use crate::listing::decide_disasm;
 use crate::periodic::decide_periodic;
 use crate::plan_kinds::decide_plan;
@@ -101,20 +101,20 @@ fn decide_run(
     match backward.schedule {
         Schedule::Named(_) => {
             let over = decide_over(alloc, options, steps, loaded, counts)?;
-            Ok(performance(over, workers_of(options)))
+            Ok(execution(over, workers_of(options)))
         }
         Schedule::Made => decide_made(alloc, options, steps, loaded, counts),
     }
 }
 
 // The job of performing a list, with so many workers.
-fn performance(over: Over, workers: u32) -> Job
+fn execution(over: Over, workers: u32) -> Job
     ensures job { job_of result ≡ perform (run_over over) }
     ensures can_be_done { IsOver over → CanBeDone result }
     ensures workers { HasWorkers workers result }
     ensures room { (counts : List ℕ) → HaveRoom over.steps (slots_of over.book) counts → KeepersHaveRoom result counts }
 {
-    Job::Perform(Performance {
+    Job::Perform(Execution {
         start: over.start,
         journal: over.journal,
         unit: over.unit,

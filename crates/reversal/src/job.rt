@@ -6,7 +6,7 @@ ghost use Rattle.unit_digests.specs.Prelude.{HasPages};
 ghost use Rattle.keepers.specs.Prelude.{Images};
 ghost use Rattle.reverse_runner.specs.Prelude.{HaveRoom, slot_counts, levels_of, AreAlone};
 ghost use Rattle.reverse_runner.specs.declared.fault.RunFault.TheVariants as fault_is;
-ghost use Rattle.reversal.specs.Prelude.{perform, write, Moment, beside, AllEmpty, left_of, EndsShowing, course_of, Begins, performed_run, run_from, job_of, IsPerformable, CanBeDone, KeepersHaveRoom, IsBegun, Does, DoesBegun, fault_ending};
+ghost use Rattle.reversal.specs.Prelude.{perform, write, Moment, beside, AllEmpty, left_of, EndsShowing, course_of, Begins, executed_run, run_from, job_of, IsExecutable, CanBeDone, KeepersHaveRoom, IsBegun, Does, DoesBegun, fault_ending};
 
 use crate::actions::Actions;
 use crate::asking::Asking;
@@ -32,7 +32,7 @@ use unit_digests::Digesters;
 #[derive(Drop)]
 pub enum Job {
     /// To perform the actions of a list over a run.
-    Perform(Performance),
+    Perform(Execution),
     /// To answer a question about a run.
     Ask(Asking),
     /// To find the last state of a run with a digest.
@@ -56,7 +56,7 @@ pub enum Job {
 /// Some actions, and their run. The run has a first state, recorded input, a number of steps, and a book. It also has
 /// the instructions in a step, and the workers for the digests of a unit's lines.
 #[derive(Drop)]
-pub struct Performance {
+pub struct Execution {
     pub start: State,
     pub journal: Journal,
     pub unit: u32,
@@ -73,9 +73,9 @@ impl Job {
         ensures { Begins (job_of self.now) }
     {
         match self {
-            Job::Perform(performance) => {
-                performance.start.is_machine_state();
-                performance.journal.is_recorded();
+            Job::Perform(execution) => {
+                execution.start.is_machine_state();
+                execution.journal.is_recorded();
             }
             Job::Ask(asking) => {
                 asking.over.start.is_machine_state();
@@ -110,7 +110,7 @@ impl Job {
         ensures { Does O.Sink K.Storage (job_of self) result out.old out.new keepers.old keepers.new counter.old counter.new }
     {
         match self {
-            Job::Perform(performance) => performance.perform(rt, alloc, keepers, out, counter),
+            Job::Perform(execution) => execution.perform(rt, alloc, keepers, out, counter),
             Job::Ask(asking) => asking.answer(alloc, keepers, out, counter),
             Job::Find(finding) => finding.find(rt, alloc, out, counter),
             Job::Write(text) => write_bytes(text.bytes(), out),
@@ -124,7 +124,7 @@ impl Job {
     }
 }
 
-impl Performance {
+impl Execution {
     // Performs the list from the first state on.
     fn perform<R: Threads + Sync, K: Keeper, O: Sink, L: Ledger>(
         self,
@@ -134,11 +134,11 @@ impl Performance {
         out: &mut O,
         counter: &mut Steps<L>,
     ) -> Outcome
-        requires can_be_done { IsPerformable self }
+        requires can_be_done { IsExecutable self }
         requires room { HaveRoom self.steps (slots_of self.book) (slot_counts K.Storage keepers.old.items) }
-        ensures { Does O.Sink K.Storage (perform (performed_run self)) result out.old out.new keepers.old keepers.new counter.old counter.new }
+        ensures { Does O.Sink K.Storage (perform (executed_run self)) result out.old out.new keepers.old keepers.new counter.old counter.new }
     {
-        let Performance {
+        let Execution {
             start,
             journal,
             unit,

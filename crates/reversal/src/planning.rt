@@ -13,7 +13,7 @@ ghost use Rattle.reversal.specs.Prelude.{perform, write, Moment, beside, bytes_o
 
 use crate::actions::Actions;
 use crate::decision::{beginning_of, book_in, keep, unit_of, workers_of};
-use crate::job::{Job, Performance};
+use crate::job::{Execution, Job};
 use action_text::print_action;
 use bound_cert::certify_revolve;
 use cert_text::{Certificate, print_certificate};
@@ -49,7 +49,7 @@ pub fn decide_made(
     keep(steps, &book, counts)?;
     let revolve = revolve_for(alloc, steps, &book)?;
     let (start, journal) = beginning_of(alloc, options, &loaded.program, loaded.journal.take())?;
-    Ok(Job::Perform(Performance {
+    Ok(Job::Perform(Execution {
         start,
         journal,
         unit: unit_of(options),

@@ -1,4 +1,4 @@
-// The top call.
+// The top call: `reversal` does what the words of a command line ask for.
 ghost use Rattle.std.specs.Prelude.{◌≡◌, ◌≢◌, ◌⊎◌, ◌↔◌, ℕ, ◌++◌, take, IfOk, IfErr};
 ghost use Rattle.std.specs.List.{AllByRecursion};
 ghost use Rattle.keepers.specs.Prelude.{Rose};
@@ -30,13 +30,13 @@ pub fn reversal<R: Threads + Sync, I: Inputs, K: Keeper, O: Sink, L: Ledger>(
     steps: &mut Steps<L>,
 ) -> Ended
     // Status 2 occurs exactly if the words mean no request.
-    ensures words { (result.status ≡ 2) ↔ ((r : ARequest) → Says (words_of words.now) r → ⊥) }
+    ensures says { (result.status ≡ 2) ↔ ((r : ARequest) → Says (words_of words.now) r → ⊥) }
 
     // Words that are no request, or have a number out of bounds, are refused before any input is read.
     ensures unread { (o : AnOutcome) → RefusesWords (words_of words.now) o → (result ≡ ended_of o) × (inputs.new ≡ inputs.old) }
 
     // The requested names are the first few of the request's inputs, perhaps none, in the order of the words.
-    ensures asked { (r : ARequest) → Asks (words_of words.now) r → (k : ℕ) × (I.asked inputs.new ≡ I.asked inputs.old ++ take k (names (inputs_of r.command))) }
+    ensures asks { (r : ARequest) → Asks (words_of words.now) r → (k : ℕ) × (I.asked inputs.new ≡ I.asked inputs.old ++ take k (names (inputs_of r.command))) }
 
     // Status 3 names the input that can't be read. Up to the count's end, the inputs' count of faults rises exactly
     // then.

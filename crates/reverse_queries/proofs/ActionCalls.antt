@@ -13,7 +13,7 @@ use Rattle.reverse_runner.specs.ActionEffects.{Holdings}
 use Rattle.reverse_runner.specs.KeepersSeen.{calls_of, one_if}
 use Rattle.reverse_runner.specs.VisitorCalls.{calls_keepers}
 use Rattle.reverse_runner.specs.SessionOfRun.{pair_read, IsDamage}
-use Rattle.reverse_queries.specs.ListPerformance.{CallsKeeper, FaultFits}
+use Rattle.reverse_queries.specs.ListExecution.{CallsKeeper, FaultFits}
 use Rattle.reverse_queries.proofs.ActionLevels.{one_named, two_named, none_named}
 
 -- a test that a number is this one counts one

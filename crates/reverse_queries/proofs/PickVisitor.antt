@@ -18,7 +18,7 @@ use Rattle.reverse_runner.specs.VisitorCalls.{states_out, GetsAll, MissesOne}
 use Rattle.reverse_queries.specs.declared.picked.Picked.{Picked}
 use Rattle.reverse_queries.specs.Queries.{hands_out}
 use Rattle.reverse_queries.specs.HoldingsTrace.{HaveOut}
-use Rattle.reverse_queries.specs.ListPerformance.{IsOut, MissesState}
+use Rattle.reverse_queries.specs.ListExecution.{IsOut, MissesState}
 use Rattle.reverse_queries.specs.PickVisitor.{PassesOn}
 use Rattle.reverse_queries.proofs.Numbers.{Stands, stands_later, stands_is, number_within}
 use Rattle.reverse_queries.proofs.ReversalOrder.{Turns, left, hands_of}

@@ -36,7 +36,7 @@ use Rattle.reverse_runner.specs.SessionOfRun.{StandsAt, Performs, SessionEnds}
 use Rattle.reverse_runner.proofs.KeeperFaults.{no_keeper}
 use Rattle.reverse_runner.proofs.KeeperCalls.{are_still, are_then, are_wider}
 use Rattle.reverse_queries.specs.QuestionEffects.{IsSpared}
-use Rattle.reverse_queries.specs.ListPerformance.{calls_of_all, done_after, PerformsAll, FaultFits, RefusedIn}
+use Rattle.reverse_queries.specs.ListExecution.{calls_of_all, done_after, PerformsAll, FaultFits, RefusedIn}
 use Rattle.reverse_queries.proofs.ListPrefixes.{is_within}
 use Rattle.reverse_queries.proofs.ActionCalls.{same_there}
 use Rattle.reverse_queries.proofs.TraceSteps.{Gone, through}

@@ -2,7 +2,7 @@ pub mod QuestionEffects
 pub mod Collision
 pub mod FinderModel
 pub mod HoldingsTrace
-pub mod ListPerformance
+pub mod ListExecution
 pub mod PickVisitor
 pub mod Queries
 pub mod Prelude

@@ -16,7 +16,7 @@ use Rattle.reverse_runner.specs.SessionState.{SessionState, holdings_of}
 use Rattle.reverse_runner.specs.SessionOfRun.{StandsAt}
 use Rattle.reverse_queries.specs.Queries.{IsLast, up_to}
 use Rattle.reverse_queries.specs.HoldingsTrace.{IsFoundOn}
-use Rattle.reverse_queries.specs.ListPerformance.{calls_of_all, PerformsAll, RefusedIn}
+use Rattle.reverse_queries.specs.ListExecution.{calls_of_all, PerformsAll, RefusedIn}
 
 -- Exactly the actions of a list were performed. The session went over them. The count of machine steps rose by theirs,
 -- and the keepers were called as they call them.

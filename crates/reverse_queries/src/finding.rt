@@ -2,7 +2,7 @@
 ghost use Rattle.std.specs.Prelude.{◌≡◌, ◌≤◌, ◌↔◌, None, IsTrue};
 ghost use Rattle.rv_pages.specs.declared.pages.TheConstants.{LAST_WORD};
 ghost use Rattle.reverse_queries.specs.Queries.{word_bytes};
-ghost use Rattle.reverse_queries.specs.ListPerformance.{AwaitsList};
+ghost use Rattle.reverse_queries.specs.ListExecution.{AwaitsList};
 ghost use Rattle.reverse_queries.specs.QuestionEffects.{FindsLast};
 ghost use Rattle.reverse_queries.specs.FinderModel.{DoesWhatIsAsked, Finds, Got};
 ghost use Rattle.reverse_runner.specs.Prelude.{slot_counts};

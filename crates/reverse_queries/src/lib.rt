@@ -5,7 +5,7 @@
 //! In `specs/`:
 //!
 //! - `Queries`: what is asked, and how much of a list is performed.
-//! - `ListPerformance`: what that does to a session.
+//! - `ListExecution`: what that does to a session.
 //! - `HoldingsTrace`: which states are given on the way.
 #![tactic(auto)]
 

@@ -5,7 +5,7 @@ ghost use Rattle.reverse_runner.specs.Prelude.{Stays, VisitorAfter, KeepersAre, 
 ghost use Rattle.reverse_queries.specs.Queries.{WritesIn, ChangesIn, front_to};
 ghost use Rattle.reverse_queries.specs.QuestionEffects.{Performed, IsSpared, FindsLast};
 ghost use Rattle.reverse_queries.specs.HoldingsTrace.{IsFoundOn};
-ghost use Rattle.reverse_queries.specs.ListPerformance.{AwaitsList, GetsState, MissesState, RefusedIn};
+ghost use Rattle.reverse_queries.specs.ListExecution.{AwaitsList, GetsState, MissesState, RefusedIn};
 
 use crate::finder::Sought;
 use crate::finding::find_last;

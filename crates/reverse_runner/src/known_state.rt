@@ -1,16 +1,16 @@
 // A state, and the digest of its image where it is known.
 ghost use Rattle.std.specs.Prelude.{◌≡◌, ◌↔◌, ℕ, ◌+◌, ◌≤◌, ◌∷◌, length, slice_get, IfSome, None, Some, Err, OnOk, OnErr};
 ghost use Rattle.rv_pages.specs.Prelude.{page_numbers};
-ghost use Rattle.rv_machine.specs.Prelude.{state_number, CanNote, AreNoted};
+ghost use Rattle.rv_machine.specs.Prelude.{state_number};
 ghost use Rattle.sha2.specs.Sha256.{sha256};
 ghost use Rattle.state_image.specs.Prelude.{image, first_wrong, first_unmapped, line};
-ghost use Rattle.unit_undo.specs.Prelude.{Entry, undone, CanGoBack};
+ghost use Rattle.unit_undo.specs.Prelude.{Entry, undone, CanGoBack, IsMadeFor, LeadsBack, states_below};
 ghost use Rattle.unit_digests.specs.Prelude.{states_of, AreDigests};
 ghost use Rattle.reverse_runner.specs.Prelude.{IsDecoded, IsNoImage};
 
 use input_journal::Journal;
 use plan_types::Line;
-use rv_machine::{State, Steps, Watch, advance, advance_watched};
+use rv_machine::{State, Steps, advance, advance_watched};
 use state_image::{ImageFault, decode_image, image_digest, line_front, push_digest};
 use std::marker::Model;
 use std::sync::ledger::Ledger;
@@ -80,22 +80,25 @@ impl KnownState {
         }
     }
 
-    /// Takes so many steps, and a watcher looks at each before it is taken.
-    pub(crate) fn advance_watched<L: Ledger, W: Watch>(
+    /// Takes so many steps, and leaves an entry for each in the undo list, and no others.
+    pub(crate) fn advance_noting<L: Ledger>(
         &mut self,
         journal: &Journal,
         count: u32,
         steps: &mut Steps<L>,
-        watch: &mut W,
+        undo: &mut Undo,
     )
-        requires { CanNote W.can_note W.noted self.old journal.now count watch.old }
+        requires made { IsMadeFor journal.now undo.old }
+        requires few { count ≤ undo.old.unit }
         ensures states { self.new ≡ state_number self.old journal.now count }
-        ensures counted { steps.new ≡ steps.old + count }
         ensures mapped { page_numbers self.new.memory ≡ page_numbers self.old.memory }
-        ensures noted { AreNoted W.noted self.old journal.now count watch.old watch.new }
+        ensures back { LeadsBack undo.new.entries self.new (states_below self.old journal.now count) }
+        ensures stays { (undo.new.unit ≡ undo.old.unit) × (undo.new.room ≡ undo.old.room) }
+        ensures counted { steps.new ≡ steps.old + count }
     {
+        undo.clear();
         self.digest = None;
-        advance_watched(&mut self.state, journal, count, steps, watch);
+        advance_watched(&mut self.state, journal, count, steps, undo);
     }
 
     /// Copies another state with the same pages into this one.

@@ -106,10 +106,9 @@ impl Workspace {
         ensures counted { steps.new ≡ steps.old + count }
     {
         know_first(self.desk.work.known(), &mut self.known);
-        self.undo.clear();
         self.desk
             .work
-            .advance_watched(journal, count, steps, &mut self.undo);
+            .advance_noting(journal, count, steps, &mut self.undo);
         self.tape.copy_from(&self.desk.work);
     }
 

@@ -7,7 +7,7 @@ use Rattle.rv_machine.specs.States.{state_number}
 use Rattle.rv_machine.specs.Watchers.{AreNoted}
 use Rattle.run_timeline.specs.Moves.{StopList}
 use Rattle.run_timeline.specs.declared.stops.Hit.{Hit}
-use Rattle.run_timeline.specs.declared.looking.Last.{Last}
+use Rattle.run_timeline.specs.declared.observing.Last.{Last}
 use Rattle.run_timeline.specs.LastWatcher.{IsNotedLast}
 use Rattle.run_timeline.specs.StepObservations.{seen, IsLastSeen}
 

@@ -8,7 +8,7 @@ use Rattle.rv_machine.specs.StepTable.{is_running}
 use Rattle.rv_machine.specs.Watchers.{Ends, GoesOn}
 use Rattle.run_timeline.specs.declared.stops.Hit.{Hit}
 use Rattle.run_timeline.specs.declared.stops.Hit.TheVariants.{Watch}
-use Rattle.run_timeline.specs.Moves.{StopList, Run, state, IsPlace, is_end, broken, watched, ahead, behind, NothingHit, EndsForward, EndsBackward, CameBack}
+use Rattle.run_timeline.specs.Moves.{StopList, Run, state, IsPlace, is_end, broken, watched, ahead, behind, NothingHit, EndsForward, EndsBackward, CameBackward}
 use Rattle.run_timeline.specs.StepObservations.{is_hit, seen, IsLastSeen}
 use Rattle.run_timeline.specs.WalkState.{WalkState, IsFew}
 use Rattle.run_timeline.proofs.StopHits.{NothingSeen, nothing_seen, came_there, seen_near, seen_at, ends_backward, ends_forward, nothing_ahead, nothing_joined}
@@ -103,7 +103,7 @@ found_near r stops from end n (Some x) is h =
     omega (arith, near, h.1.0, is)
 
 pub goes_back : (r : Run) (stops : StopList) (p from end n : ℕ) (o : Option (ℕ × Hit)) → IsPlace r p → end ≡ from + n → IsLastSeen (λ k. seen stops r.journal (from + k) (state r (from + k))) n o →
-    CameBack r stops p end → MatchOption o (CameBack r stops p from) (λ found. EndsBackward r stops p found.0 (Some found.1))
+    CameBackward r stops p end → MatchOption o (CameBackward r stops p from) (λ found. EndsBackward r stops p found.0 (Some found.1))
 goes_back r stops p from end n None place is h came =
     came_there r stops p from place (omega (arith, is, came.0)) (unseen_from r stops from end p n is h (nothing_seen r stops p end place came))
 goes_back r stops p from end n (Some x) place is h came = ends_at_seen r stops from end p n x place came.0 is h (nothing_seen r stops p end place came)

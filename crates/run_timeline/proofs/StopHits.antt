@@ -8,7 +8,7 @@ use Rattle.rv_machine.specs.StepTable.{is_running}
 use Rattle.rv_machine.specs.Watchers.{Ends, GoesOn}
 use Rattle.run_timeline.specs.declared.stops.Hit.{Hit}
 use Rattle.run_timeline.specs.declared.stops.Hit.TheVariants.{Break, Watch}
-use Rattle.run_timeline.specs.Moves.{StopList, Run, state, IsPlace, is_end, broken, watched, ahead, behind, NothingHit, EndsForward, EndsBackward, CameBack}
+use Rattle.run_timeline.specs.Moves.{StopList, Run, state, IsPlace, is_end, broken, watched, ahead, behind, NothingHit, EndsForward, EndsBackward, CameBackward}
 use Rattle.run_timeline.specs.StepObservations.{breaks_at, writes_from, is_hit, seen}
 
 no_some : {X : Type 0} (o : Option X) → is_some o ≡ false → o ≡ None
@@ -175,11 +175,11 @@ seen_none : (k : ℕ) (b : Bool) (o : Option ℕ) → cond b (Some Break) None �
 seen_none k true o h e = absurd (true≢false (ap is_some h))
 seen_none k false o h e = ap (λ (x : Option ℕ). option_or {T = ℕ × Hit} (option_map (λ i. (k + 1, Watch i)) x) None) e
 
-pub nothing_seen : (r : Run) (stops : StopList) (p q : ℕ) → IsPlace r p → CameBack r stops p q → NothingSeen r stops q p
+pub nothing_seen : (r : Run) (stops : StopList) (p q : ℕ) → IsPlace r p → CameBackward r stops p q → NothingSeen r stops q p
 nothing_seen r stops p q place came k above below =
     let none = came.1 k above below in
     seen_none k (breaks_at stops (state r k)) (writes_from stops r.journal (state r k)) none.0 (sym (watched_is r stops p k place below) ∙ none.1)
 
-pub came_there : (r : Run) (stops : StopList) (p q : ℕ) → IsPlace r p → q ≤ p → NothingSeen r stops q p → CameBack r stops p q
+pub came_there : (r : Run) (stops : StopList) (p q : ℕ) → IsPlace r p → q ≤ p → NothingSeen r stops q p → CameBackward r stops p q
 came_there r stops p q place order clear =
     (order, λ k above below. (ap (λ (b : Bool). cond b (Some Break) None) (no_break r stops k (clear k above below)), watched_is r stops p k place below ∙ no_write r stops k (clear k above below)))

@@ -2,7 +2,7 @@
 use Rattle.std.specs.Prelude.{◌≡◌, ℕ, ◌+◌, List}
 use Rattle.std.specs.Option.{option_or}
 use Rattle.rv_machine.specs.MachineState.{MachineState}
-use Rattle.run_timeline.specs.declared.looking.Last.{Last}
+use Rattle.run_timeline.specs.declared.observing.Last.{Last}
 use Rattle.run_timeline.specs.StepObservations.{seen}
 
 -- a state and the step from it were observed

@@ -66,13 +66,13 @@ EndsBackward r stops p m (Some hit) = (m ≤ p) × (behind r stops p m ≡ Some 
 EndsBackward r stops p m None = (m ≡ 0) × NothingHit (behind r stops p) 0 (p + 1)
 
 -- A move forward from p has reached q without a hit, and goes on.
-abbrev pub CameOn : Run → StopList → ℕ → ℕ → Type 0
-CameOn r stops p q = (p ≤ q) × NothingHit (ahead r stops p) p q
+abbrev pub CameForward : Run → StopList → ℕ → ℕ → Type 0
+CameForward r stops p q = (p ≤ q) × NothingHit (ahead r stops p) p q
 
 -- A move backward from p has reached q, and goes on. From q to before p there is no breakpoint, and no step writes a
 -- watched byte.
-abbrev pub CameBack : Run → StopList → ℕ → ℕ → Type 0
-CameBack r stops p q = (q ≤ p) × ((k : ℕ) → q ≤ k → k < p → (broken r stops k ≡ None) × (watched r stops k ≡ None))
+abbrev pub CameBackward : Run → StopList → ℕ → ℕ → Type 0
+CameBackward r stops p q = (q ≤ p) × ((k : ℕ) → q ≤ k → k < p → (broken r stops k ≡ None) × (watched r stops k ≡ None))
 
 -- How a step from p ends, forward and backward. It isn't taken if it would cross a write to a watched byte.
 abbrev pub step_ahead : Run → StopList → ℕ → Step

@@ -1,6 +1,6 @@
 // Moves over a run.
 ghost use Rattle.std.specs.Prelude.{◌≡◌, ◌⊎◌, ℕ, ◌+◌, ◌*◌, ◌<◌, ◌≤◌, ⊤, max, true};
-ghost use Rattle.run_timeline.specs.Moves.{is_end as is_end_of, EndsForward, EndsBackward, CameOn, step_ahead, steps_of};
+ghost use Rattle.run_timeline.specs.Moves.{is_end as is_end_of, EndsForward, EndsBackward, CameForward, step_ahead, steps_of};
 ghost use Rattle.run_timeline.specs.MoveParts.{MatchPart};
 ghost use Rattle.run_timeline.specs.WalkState.{IsFew};
 
@@ -29,24 +29,28 @@ impl Walk {
     }
 
     /// Goes on to the first hit, and returns it, or to the end of the run.
-    pub(crate) fn run_on<L: Ledger>(&mut self, stops: &Stops, steps: &mut Steps<L>) -> Option<Hit>
+    pub(crate) fn run_forward<L: Ledger>(
+        &mut self,
+        stops: &Stops,
+        steps: &mut Steps<L>,
+    ) -> Option<Hit>
         ensures ends { EndsForward self.old.run stops.now self.old.place self.new.place result }
         ensures stays { self.new ≡ record self.old { place = self.new.place; reached = max self.old.reached self.new.place } }
         ensures counted { steps.new + self.old.place ≡ steps.old + self.new.place }
     {
-        if let Part::Ended(hit) = self.begin_on(stops, steps) {
+        if let Part::Ended(hit) = self.begin_forward(stops, steps) {
             return hit;
         }
         loop {
-            if let Part::Ended(hit) = self.look_on(stops, steps) {
+            if let Part::Ended(hit) = self.look_forward(stops, steps) {
                 return hit;
             }
         }
     }
 
     /// Begins a move forward: takes a step, if there is one and it writes no watched byte.
-    pub(crate) fn begin_on<L: Ledger>(&mut self, stops: &Stops, steps: &mut Steps<L>) -> Part
-        ensures ends { MatchPart result (EndsForward self.old.run stops.now self.old.place self.new.place) (CameOn self.old.run stops.now self.old.place self.new.place) }
+    pub(crate) fn begin_forward<L: Ledger>(&mut self, stops: &Stops, steps: &mut Steps<L>) -> Part
+        ensures ends { MatchPart result (EndsForward self.old.run stops.now self.old.place self.new.place) (CameForward self.old.run stops.now self.old.place self.new.place) }
         ensures further { MatchPart result (λ _. ⊤) (self.new.place ≡ self.old.place + 1) }
         ensures stays { self.new ≡ record self.old { place = self.new.place; reached = max self.old.reached self.new.place } }
         ensures counted { steps.new + self.old.place ≡ steps.old + self.new.place }
@@ -64,9 +68,9 @@ impl Walk {
     }
 
     /// Continues a move that began elsewhere, up to the next mark.
-    pub(crate) fn look_on<L: Ledger>(&mut self, stops: &Stops, steps: &mut Steps<L>) -> Part
-        ensures ends { (p : ℕ) → p < self.old.place → CameOn self.old.run stops.now p self.old.place →
-            MatchPart result (EndsForward self.old.run stops.now p self.new.place) (CameOn self.old.run stops.now p self.new.place) }
+    pub(crate) fn look_forward<L: Ledger>(&mut self, stops: &Stops, steps: &mut Steps<L>) -> Part
+        ensures ends { (p : ℕ) → p < self.old.place → CameForward self.old.run stops.now p self.old.place →
+            MatchPart result (EndsForward self.old.run stops.now p self.new.place) (CameForward self.old.run stops.now p self.new.place) }
         ensures further { MatchPart result (λ _. ⊤) (self.old.place < self.new.place) }
         ensures within { (self.old.place ≤ self.new.place) × (self.new.place ≤ self.old.run.most) }
         ensures stays { self.new ≡ record self.old { place = self.new.place; reached = max self.old.reached self.new.place } }
@@ -100,7 +104,7 @@ impl Walk {
     }
 
     /// Goes on by one step, if there is one and it writes no watched byte. It returns how that ended.
-    pub(crate) fn step_on<L: Ledger>(&mut self, stops: &Stops, steps: &mut Steps<L>) -> Step
+    pub(crate) fn step_forward<L: Ledger>(&mut self, stops: &Stops, steps: &mut Steps<L>) -> Step
         ensures value { result ≡ step_ahead self.old.run stops.now self.old.place }
         ensures goes { self.new.place ≡ self.old.place + steps_of result }
         ensures stays { self.new ≡ record self.old { place = self.new.place; reached = max self.old.reached self.new.place } }

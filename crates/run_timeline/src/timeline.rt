@@ -4,7 +4,7 @@ ghost use Rattle.rv_pages.specs.Prelude.{page_numbers};
 ghost use Rattle.input_journal.specs.Prelude.{IsRecorded};
 ghost use Rattle.rv_machine.specs.Prelude.{IsMachineState, outputs};
 ghost use Rattle.run_timeline.specs.declared.stops.Step.TheVariants.{Went};
-ghost use Rattle.run_timeline.specs.Moves.{state as state_of, IsPlace, is_end as is_end_of, EndsForward, EndsBackward, CameOn, CameBack, step_ahead, step_behind, steps_of, watched as watched_of};
+ghost use Rattle.run_timeline.specs.Moves.{state as state_of, IsPlace, is_end as is_end_of, EndsForward, EndsBackward, CameForward, CameBackward, step_ahead, step_behind, steps_of, watched as watched_of};
 ghost use Rattle.run_timeline.specs.MoveParts.{MatchPart};
 ghost use Rattle.run_timeline.specs.TimelineState.{IsFew, marks_for as marks_of_budget, TimelineState, timeline_code};
 ghost use Rattle.run_timeline.specs.TimelineFields.{timeline_state, IsTimeline};
@@ -126,36 +126,36 @@ impl Timeline {
     }
 
     /// Goes on to the first hit, and returns it, or to the end of the run.
-    pub fn run_on<L: Ledger>(&mut self, stops: &Stops, steps: &mut Steps<L>) -> Option<Hit>
+    pub fn run_forward<L: Ledger>(&mut self, stops: &Stops, steps: &mut Steps<L>) -> Option<Hit>
         ensures ends { EndsForward self.old.run stops.now self.old.place self.new.place result }
         ensures stays { self.new ≡ record self.old { place = self.new.place; reached = max self.old.reached self.new.place; trail = 0 } }
         ensures counted { steps.new + self.old.place ≡ steps.old + self.new.place }
     {
         self.undo.clear();
-        self.walk.run_on(stops, steps)
+        self.walk.run_forward(stops, steps)
     }
 
     /// Begins a move forward: takes a step, if there is one and it writes no watched byte.
-    pub fn begin_on<L: Ledger>(&mut self, stops: &Stops, steps: &mut Steps<L>) -> Part
-        ensures ends { MatchPart result (EndsForward self.old.run stops.now self.old.place self.new.place) (CameOn self.old.run stops.now self.old.place self.new.place) }
+    pub fn begin_forward<L: Ledger>(&mut self, stops: &Stops, steps: &mut Steps<L>) -> Part
+        ensures ends { MatchPart result (EndsForward self.old.run stops.now self.old.place self.new.place) (CameForward self.old.run stops.now self.old.place self.new.place) }
         ensures further { MatchPart result (λ _. ⊤) (self.new.place ≡ self.old.place + 1) }
         ensures stays { self.new ≡ record self.old { place = self.new.place; reached = max self.old.reached self.new.place; trail = 0 } }
         ensures counted { steps.new + self.old.place ≡ steps.old + self.new.place }
     {
         self.undo.clear();
-        self.walk.begin_on(stops, steps)
+        self.walk.begin_forward(stops, steps)
     }
 
     /// Continues a move forward that began elsewhere, up to the place of the next kept state.
-    pub fn look_on<L: Ledger>(&mut self, stops: &Stops, steps: &mut Steps<L>) -> Part
-        ensures ends { (p : ℕ) → p < self.old.place → CameOn self.old.run stops.now p self.old.place →
-            MatchPart result (EndsForward self.old.run stops.now p self.new.place) (CameOn self.old.run stops.now p self.new.place) }
+    pub fn look_forward<L: Ledger>(&mut self, stops: &Stops, steps: &mut Steps<L>) -> Part
+        ensures ends { (p : ℕ) → p < self.old.place → CameForward self.old.run stops.now p self.old.place →
+            MatchPart result (EndsForward self.old.run stops.now p self.new.place) (CameForward self.old.run stops.now p self.new.place) }
         ensures further { MatchPart result (λ _. ⊤) (self.old.place < self.new.place) }
         ensures stays { self.new ≡ record self.old { place = self.new.place; reached = max self.old.reached self.new.place; trail = 0 } }
         ensures counted { steps.new + self.old.place ≡ steps.old + self.new.place }
     {
         self.undo.clear();
-        self.walk.look_on(stops, steps)
+        self.walk.look_forward(stops, steps)
     }
 
     /// Continues a move backward that reached `end`, over the steps from the last earlier kept state. It returns the
@@ -170,8 +170,8 @@ impl Timeline {
         requires known { end ≤ self.old.reached }
         ensures from { result.0 < end }
         ensures near { IfSome result.1 (λ found. found.0 ≤ end) }
-        ensures ends { (p : ℕ) → p ≤ self.old.reached → CameBack self.old.run stops.now p end →
-            MatchOption result.1 (CameBack self.old.run stops.now p result.0) (λ found. EndsBackward self.old.run stops.now p found.0 (Some found.1)) }
+        ensures ends { (p : ℕ) → p ≤ self.old.reached → CameBackward self.old.run stops.now p end →
+            MatchOption result.1 (CameBackward self.old.run stops.now p result.0) (λ found. EndsBackward self.old.run stops.now p found.0 (Some found.1)) }
         ensures stays { self.new ≡ record self.old { place = end; trail = 0 } }
         ensures few { (n : ℕ) × ((end ≡ result.0 + n) × IsFew self.old n) }
         ensures counted { steps.new + result.0 ≡ steps.old + end }
@@ -207,14 +207,14 @@ impl Timeline {
     }
 
     /// Goes on by one step, if there is one and it writes no watched byte. It returns how that ended.
-    pub fn step_on<L: Ledger>(&mut self, stops: &Stops, steps: &mut Steps<L>) -> Step
+    pub fn step_forward<L: Ledger>(&mut self, stops: &Stops, steps: &mut Steps<L>) -> Step
         ensures value { result ≡ step_ahead self.old.run stops.now self.old.place }
         ensures goes { self.new.place ≡ self.old.place + steps_of result }
         ensures stays { self.new ≡ record self.old { place = self.new.place; reached = max self.old.reached self.new.place; trail = 0 } }
         ensures counted { steps.new ≡ steps.old + steps_of result }
     {
         self.undo.clear();
-        self.walk.step_on(stops, steps)
+        self.walk.step_forward(stops, steps)
     }
 
     /// Goes back by one step, if there is one and it wrote no watched byte. It returns how that ended. Undoing a step

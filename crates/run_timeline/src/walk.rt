@@ -12,8 +12,8 @@ ghost use Rattle.run_timeline.specs.WalkState.{IsFew, WalkState, walk_code};
 ghost use Rattle.run_timeline.specs.WalkFields.{walk_state, IsWalk};
 
 use crate::collector::Collector;
-use crate::looking::{Never, look_back, look_on};
 use crate::marks::Marks;
+use crate::observing::{Never, look_back, look_forward};
 use crate::stops::{Hit, Stops};
 use input_journal::Journal;
 use rv_machine::{Next, State, Status, Steps, advance, advance_until, advance_watched};
@@ -236,7 +236,7 @@ impl Walk {
     {
         let end = self.marks.end_towards(self.most);
         let count = end - self.place;
-        let taken = look_on(&mut self.work, &self.journal, stops, count, steps);
+        let taken = look_forward(&mut self.work, &self.journal, stops, count, steps);
         self.place += taken;
         self.reached = self.reached.max(self.place);
         self.marks.pass(&self.work, self.place);

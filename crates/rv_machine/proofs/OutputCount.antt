@@ -13,7 +13,7 @@ use Rattle.rv_machine.specs.Effects.{bytes_of}
 use Rattle.rv_machine.specs.MachineState.{MachineState}
 use Rattle.rv_machine.specs.StateChanges.{with_register, trapped, gone_on, put}
 use Rattle.rv_machine.specs.SystemCalls.{argument, not_mapped, no_such_call, are_mapped, bytes_read, received, read_from, sent, exited, called}
-use Rattle.rv_machine.specs.StepTable.{jumped, loaded, happened, effect_in, effect_at_pc, said, executed, is_running, next}
+use Rattle.rv_machine.specs.StepTable.{jumped, loaded, applied, effect_in, effect_at_pc, said, executed, is_running, next}
 use Rattle.rv_machine.specs.States.{state_number}
 use Rattle.rv_machine.specs.Output.{output_of_call, output_by, output, outputs}
 
@@ -84,7 +84,7 @@ stores : (b : Bool) (s t : MachineState) → t.written ≡ s.written → Counts 
 stores true s t e small = omega (arith, e)
 stores false s t e small = omega arith
 
-happens : (s : MachineState) (journal : List (List ℕ)) (e : Effect) → Counts s.written (happened s journal e).written (output_by s (Some e))
+happens : (s : MachineState) (journal : List (List ℕ)) (e : Effect) → Counts s.written (applied s journal e).written (output_by s (Some e))
 happens s journal (Put rd value) = stays s.written
 happens s journal (Jump rd target) = jumps s rd target
 happens s journal (Branch taken target) = either taken s.written (jumped s 0 target) (gone_on s) [] (jumps s 0 target) (stays s.written)

@@ -1,4 +1,4 @@
--- What callers of a step use.
+-- A step maps no page anew, and what else callers of a step need.
 use Rattle.std.proofs.Common.{◌≡◌, ◌==◌, ◌+◌, ◌%◌, ℕ, zero, suc, add-one, add-zero, add-suc, ap, Bool, true, false, cond, ◌||◌, List, length, slice_get, refl, ◌∙◌, Option, None, Some, is_some}
 use Rattle.std.specs.Prelude.{nat_le}
 use Rattle.rv_pages.specs.Memory.{page_numbers, wrapped, word_at, bytes_at, number_at, with_bytes, with_number}
@@ -13,7 +13,7 @@ use Rattle.rv_machine.specs.Effects.{bytes_of}
 use Rattle.rv_machine.specs.MachineState.{MachineState}
 use Rattle.rv_machine.specs.StateChanges.{put, gone_on, trapped}
 use Rattle.rv_machine.specs.SystemCalls.{argument, not_mapped, no_such_call, bytes_read, received, read_from, sent, exited, called}
-use Rattle.rv_machine.specs.StepTable.{next, executed, said, effect_in, happened, jumped, loaded, is_running}
+use Rattle.rv_machine.specs.StepTable.{next, executed, said, effect_in, applied, jumped, loaded, is_running}
 use Rattle.rv_machine.specs.States.{state_number}
 use Rattle.rv_machine.proofs.Stores.{with_number_numbers}
 
@@ -56,7 +56,7 @@ called_pages s journal =
     (cond_pages (argument s 7 == 64) s (sent s) _ (sent_pages s)
     (cond_pages (argument s 7 == 93 || argument s 7 == 94) s (exited s) (put s 10 no_such_call) refl refl))
 
-pub happened_pages : (s : MachineState) (journal : List (List ℕ)) (effect : Effect) → page_numbers (happened s journal effect).memory ≡ page_numbers s.memory
+pub happened_pages : (s : MachineState) (journal : List (List ℕ)) (effect : Effect) → page_numbers (applied s journal effect).memory ≡ page_numbers s.memory
 happened_pages s journal (Put rd value) = refl
 happened_pages s journal (Jump rd target) = jumped_pages s rd target
 happened_pages s journal (Branch taken target) = cond_pages taken s (jumped s 0 target) (gone_on s) (jumped_pages s 0 target) refl

@@ -34,7 +34,7 @@ use Rattle.rv_machine.specs.Effects.{effect_of, bytes_of}
 use Rattle.rv_machine.specs.MachineState.{MachineState, IsMachineState, IsStatus}
 use Rattle.rv_machine.specs.StateChanges.{with_register, trapped, gone_on, put}
 use Rattle.rv_machine.specs.SystemCalls.{argument, not_mapped, no_such_call, bytes_read, moved, received, read_from, sent, exited, called}
-use Rattle.rv_machine.specs.StepTable.{jumped, loaded, happened, effect_in, said, executed, is_running, next}
+use Rattle.rv_machine.specs.StepTable.{jumped, loaded, applied, effect_in, said, executed, is_running, next}
 use Rattle.rv_machine.specs.States.{state_number}
 use Rattle.rv_machine.proofs.UpperWords.{as_word_small, high_unsigned_small}
 use Rattle.rv_machine.proofs.Stores.{with_number_memory}
@@ -248,7 +248,7 @@ calls s journal recorded h =
     (chosen (argument s 7 == 64) _ _ (sends s h)
     (chosen (argument s 7 == 93 || argument s 7 == 94) _ _ (exits s h) (puts s 10 no_such_call (omega arith) h)))
 
-happens : (s : MachineState) (journal : List (List ℕ)) (effect : Effect) → HasWords effect → IsRecorded journal → IsMachineState s → IsMachineState (happened s journal effect)
+happens : (s : MachineState) (journal : List (List ℕ)) (effect : Effect) → HasWords effect → IsRecorded journal → IsMachineState s → IsMachineState (applied s journal effect)
 happens s journal (Put rd value) small recorded h = puts s rd value small h
 happens s journal (Jump rd target) small recorded h = jumps s rd target small h
 happens s journal (Branch taken target) small recorded h = branches s taken target small h

@@ -21,7 +21,7 @@ use Rattle.rv_machine.specs.Effects.{bytes_of}
 use Rattle.rv_machine.specs.MachineState.{MachineState}
 use Rattle.rv_machine.specs.StateChanges.{with_register, trapped, gone_on, put, addresses}
 use Rattle.rv_machine.specs.SystemCalls.{argument, not_mapped, no_such_call, bytes_read, received, read_from, sent, exited, called, written_by_read, written_by_call}
-use Rattle.rv_machine.specs.StepTable.{jumped, loaded, happened, effect_in, said, executed, is_running, next, register_of, register_changed, written_by, written}
+use Rattle.rv_machine.specs.StepTable.{jumped, loaded, applied, effect_in, said, executed, is_running, next, register_of, register_changed, written_by, written}
 use Rattle.rv_machine.specs.StepChanges.{IsOutside, left_of, IsStep}
 use Rattle.rv_machine.proofs.MemoryWrites.{inside_mapped, number_mapped, length-addresses, length-low_bytes, elsewhere}
 
@@ -173,7 +173,7 @@ calls s journal =
       | false ↦ no_read
     ]
 
-happens : (s : MachineState) (journal : List (List ℕ)) (effect : Effect) → IsStep s (happened s journal effect) (register_of effect) (written_by s journal (Some effect)) journal
+happens : (s : MachineState) (journal : List (List ℕ)) (effect : Effect) → IsStep s (applied s journal effect) (register_of effect) (written_by s journal (Some effect)) journal
 happens s journal (Put rd value) = puts s (put s rd value) rd value journal refl refl refl refl
 happens s journal (Jump rd target) = jumps s rd target journal
 happens s journal (Branch taken target) = either taken s (jumped s 0 target) (gone_on s) 0 [] journal (jumps s 0 target journal) (stays s (gone_on s) 0 0 journal refl refl refl refl)

@@ -34,15 +34,15 @@ stored s at width value = cond (is_some (number_at s.memory at (bytes_of width))
 }) (trapped s 7)
 
 -- What an effect does, with the recorded input. A taken branch is a jump that writes no register. Trap 3: EBREAK.
-abbrev pub happened : MachineState → List (List ℕ) → Effect → MachineState
-happened s journal (Put rd value) = put s rd value
-happened s journal (Jump rd target) = jumped s rd target
-happened s journal (Branch taken target) = cond taken (jumped s 0 target) (gone_on s)
-happened s journal (Load rd at width with_sign) = loaded s rd width with_sign (number_at s.memory at (bytes_of width))
-happened s journal (Store at width value) = stored s at width value
-happened s journal Nothing = gone_on s
-happened s journal Call = called s journal
-happened s journal Break = trapped s 3
+abbrev pub applied : MachineState → List (List ℕ) → Effect → MachineState
+applied s journal (Put rd value) = put s rd value
+applied s journal (Jump rd target) = jumped s rd target
+applied s journal (Branch taken target) = cond taken (jumped s 0 target) (gone_on s)
+applied s journal (Load rd at width with_sign) = loaded s rd width with_sign (number_at s.memory at (bytes_of width))
+applied s journal (Store at width value) = stored s at width value
+applied s journal Nothing = gone_on s
+applied s journal Call = called s journal
+applied s journal Break = trapped s 3
 
 -- the effect of an instruction in a state
 abbrev pub effect_in : MachineState → Inst → Effect
@@ -51,7 +51,7 @@ effect_in s inst = effect_of (λ n. slice_index s.registers n) s.pc inst
 -- what a word means in a state. Trap 2: it is illegal
 abbrev pub said : MachineState → List (List ℕ) → Option Inst → MachineState
 said s journal None = trapped s 2
-said s journal (Some inst) = happened s journal (effect_in s inst)
+said s journal (Some inst) = applied s journal (effect_in s inst)
 
 -- what the word at pc does. Trap 1: it is not mapped
 abbrev pub executed : MachineState → List (List ℕ) → Option ℕ → MachineState

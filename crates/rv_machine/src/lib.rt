@@ -13,11 +13,11 @@
 //! caller may change states itself, which counts nothing.
 #![tactic(auto)]
 
+mod applying;
 mod calls;
 mod changes;
 mod code_page;
 mod effect;
-mod happening;
 pub mod laws;
 mod memo;
 mod next;

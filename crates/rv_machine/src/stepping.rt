@@ -8,9 +8,9 @@ ghost use Rattle.rv_machine.specs.StepTable.{next, effect_at_pc, is_running, reg
 ghost use Rattle.rv_machine.specs.Output.{output};
 ghost use Rattle.rv_machine.specs.Watchers.{AreNoted, CanNote, Ends, GoesOn, IsNext};
 
+use crate::applying::apply;
 use crate::changes::trap;
 use crate::code_page::CodePage;
-use crate::happening::happen;
 use crate::memo::Memo;
 use crate::next::{Changes, Next};
 use crate::span::Span;
@@ -147,7 +147,7 @@ fn take(state: &mut State, journal: &Journal, step: Next)
     ensures mapped { page_numbers state.new.memory ≡ page_numbers state.old.memory }
 {
     match step.effect(state) {
-        Some(effect) => happen(state, journal, effect),
+        Some(effect) => apply(state, journal, effect),
         None => take_without_effect(state),
     }
 }

@@ -8,7 +8,7 @@ use Rattle.rv_decode.specs.Formats as machine
 use Rattle.rv_decode.specs.Rows as decode
 use Rattle.rv_machine.specs.MachineState.{MachineState, IsMachineState}
 use Rattle.rv_machine.specs.StateChanges.{gone_on, put}
-use Rattle.rv_machine.specs.StepTable.{happened, effect_in, jumped}
+use Rattle.rv_machine.specs.StepTable.{applied, effect_in, jumped}
 use Rattle.rv_machine.proofs.UpperWords.{as_word_small}
 use Rattle.rv_manual.specs.Fields.{bits, rd, rs1, rs2, shamt, i_immediate, s_immediate, b_immediate, u_immediate, j_immediate}
 use Rattle.rv_manual.specs.Integers.{word_of}
@@ -22,7 +22,7 @@ use Rattle.rv_manual.proofs.FormatSteps.{loaded, stored, x_small, gives_is, jump
 pub record Agrees (mine : Row) (theirs : decode.Row) : Type 0 where
   pub taken : (w : ℕ) → w < 2 ^ 32 → takes w mine ≡ theirs.takes w
   pub done : (w : ℕ) (s : MachineState) (journal : List (List ℕ)) → w < 2 ^ 32 → IsMachineState s →
-      mine.after w s journal ≡ happened s journal (effect_in s (theirs.says w))
+      mine.after w s journal ≡ applied s journal (effect_in s (theirs.says w))
 
 -- the bits that are fixed
 code_is : (w : ℕ) → bits 6 0 w ≡ machine.opcode w
@@ -68,7 +68,7 @@ take_funct7 w f7 f3 code =
 
 -- operations on two registers, on a register and an immediate, and shifts by an immediate
 pub r_agrees : (f7 f3 code : ℕ) (operation : ℕ → ℕ → ℤ) (inst : ℕ → ℕ → ℕ → Inst) (value : ℕ → ℕ → ℕ) →
-    ((s : MachineState) (journal : List (List ℕ)) (d a b : ℕ) → happened s journal (effect_in s (inst d a b)) ≡ put s d (value (x s a) (x s b))) →
+    ((s : MachineState) (journal : List (List ℕ)) (d a b : ℕ) → applied s journal (effect_in s (inst d a b)) ≡ put s d (value (x s a) (x s b))) →
     ((a b : ℕ) → a < 2 ^ 32 → b < 2 ^ 32 → word_of (operation a b) ≡ value a b) → Agrees (r_type f7 f3 code operation) (decode.r_row code f3 f7 inst)
 r_agrees f7 f3 code operation inst value is gives_value = record {
   taken = λ w l. take_funct7 w f7 f3 code;
@@ -80,7 +80,7 @@ r_agrees f7 f3 code operation inst value is gives_value = record {
 }
 
 pub i_agrees : (f3 code : ℕ) (operation : ℕ → ℕ → ℤ) (inst : ℕ → ℕ → ℕ → Inst) (value : ℕ → ℕ → ℕ) →
-    ((s : MachineState) (journal : List (List ℕ)) (d a m : ℕ) → happened s journal (effect_in s (inst d a m)) ≡ put s d (value (x s a) m)) →
+    ((s : MachineState) (journal : List (List ℕ)) (d a m : ℕ) → applied s journal (effect_in s (inst d a m)) ≡ put s d (value (x s a) m)) →
     ((a b : ℕ) → a < 2 ^ 32 → b < 2 ^ 32 → word_of (operation a b) ≡ value a b) → Agrees (i_type f3 code operation) (decode.i_row code f3 inst)
 i_agrees f3 code operation inst value is gives_value = record {
   taken = λ w l. take_funct3 w f3 code;
@@ -93,7 +93,7 @@ i_agrees f3 code operation inst value is gives_value = record {
 }
 
 pub shift_agrees : (f7 f3 code : ℕ) (operation : ℕ → ℕ → ℤ) (inst : ℕ → ℕ → ℕ → Inst) (value : ℕ → ℕ → ℕ) →
-    ((s : MachineState) (journal : List (List ℕ)) (d a m : ℕ) → happened s journal (effect_in s (inst d a m)) ≡ put s d (value (x s a) m)) →
+    ((s : MachineState) (journal : List (List ℕ)) (d a m : ℕ) → applied s journal (effect_in s (inst d a m)) ≡ put s d (value (x s a) m)) →
     ((a b : ℕ) → a < 2 ^ 32 → word_of (operation a b) ≡ value a (b % 32)) → Agrees (shift_type f7 f3 code operation) (decode.shift_row code f3 f7 inst)
 shift_agrees f7 f3 code operation inst value is gives_value = record {
   taken = λ w l. take_funct7 w f7 f3 code;
@@ -111,7 +111,7 @@ address_is s w m immediate e = sum (x s (rs1 w)) immediate ∙ (λ i. wrapped (x
 
 pub load_agrees : (f3 code : ℕ) (load : Memory → ℕ → Option ℕ) (integer : ℕ → ℤ) (inst : ℕ → ℕ → ℕ → Inst) (count : ℕ) (with_sign : Bool) →
     ((s : MachineState) (journal : List (List ℕ)) (d a m : ℕ) →
-    happened s journal (effect_in s (inst d a m)) ≡ loaded s d count with_sign (number_at s.memory (wrapped (x s a + m)) count)) →
+    applied s journal (effect_in s (inst d a m)) ≡ loaded s d count with_sign (number_at s.memory (wrapped (x s a + m)) count)) →
     ((m : Memory) (at : ℕ) → load m at ≡ number_at m at count) →
     ((v : ℕ) → v < 2 ^ (8 * count) → word_of (integer v) ≡ cond with_sign (machine.sign_extended (8 * count) v) v) →
     Agrees (load_type f3 code load integer) (decode.i_row code f3 inst)
@@ -128,7 +128,7 @@ load_agrees f3 code load integer inst count with_sign is load_is integer_is = re
 
 pub s_agrees : (f3 code : ℕ) (load : Memory → ℕ → Option ℕ) (store : Memory → ℕ → ℕ → Memory) (inst : ℕ → ℕ → ℕ → Inst) (count : ℕ) →
     ((s : MachineState) (journal : List (List ℕ)) (a b m : ℕ) →
-    happened s journal (effect_in s (inst a b m)) ≡ stored s (wrapped (x s a + m)) count (x s b)) →
+    applied s journal (effect_in s (inst a b m)) ≡ stored s (wrapped (x s a + m)) count (x s b)) →
     ((m : Memory) (at : ℕ) → load m at ≡ number_at m at count) →
     ((m : Memory) (at value : ℕ) → store m at value ≡ with_number m at count value) →
     Agrees (s_type f3 code load store) (decode.s_row code f3 inst)
@@ -147,7 +147,7 @@ s_agrees f3 code load store inst count is load_is store_is = record {
 -- branches
 pub b_agrees : (f3 code : ℕ) (condition : ℕ → ℕ → Bool) (inst : ℕ → ℕ → ℕ → Inst) (test : ℕ → ℕ → Bool) →
     ((s : MachineState) (journal : List (List ℕ)) (a b m : ℕ) →
-    happened s journal (effect_in s (inst a b m)) ≡ cond (test (x s a) (x s b)) (jumped s 0 (wrapped (s.pc + m))) (gone_on s)) →
+    applied s journal (effect_in s (inst a b m)) ≡ cond (test (x s a) (x s b)) (jumped s 0 (wrapped (s.pc + m))) (gone_on s)) →
     ((a b : ℕ) → a < 2 ^ 32 → b < 2 ^ 32 → condition a b ≡ test a b) → Agrees (b_type f3 code condition) (decode.b_row code f3 inst)
 b_agrees f3 code condition inst test is condition_is = record {
   taken = λ w l. take_funct3 w f3 code;
@@ -162,7 +162,7 @@ b_agrees f3 code condition inst test is condition_is = record {
 
 -- upper immediates
 pub u_agrees : (code : ℕ) (value : ℤ → ℤ → ℤ) (inst : ℕ → ℕ → Inst) (result : ℕ → ℕ → ℕ) →
-    ((s : MachineState) (journal : List (List ℕ)) (d m : ℕ) → happened s journal (effect_in s (inst d m)) ≡ put s d (result s.pc m)) →
+    ((s : MachineState) (journal : List (List ℕ)) (d m : ℕ) → applied s journal (effect_in s (inst d m)) ≡ put s d (result s.pc m)) →
     ((pc m : ℕ) (z : ℤ) → m < 2 ^ 32 → word_of z ≡ m → word_of (value (pos pc) z) ≡ result pc m) → Agrees (u_type code value) (decode.u_row code inst)
 u_agrees code value inst result is value_is = record {
   taken = λ w l. take_code w code;
@@ -175,7 +175,7 @@ u_agrees code value inst result is value_is = record {
 -- jumps
 pub j_agrees : (code : ℕ) (inst : ℕ → ℕ → Inst) →
     ((s : MachineState) (journal : List (List ℕ)) (d m : ℕ) →
-    happened s journal (effect_in s (inst d m)) ≡ jumped s d (wrapped (s.pc + m))) → Agrees (j_type code) (decode.j_row code inst)
+    applied s journal (effect_in s (inst d m)) ≡ jumped s d (wrapped (s.pc + m))) → Agrees (j_type code) (decode.j_row code inst)
 j_agrees code inst is = record {
   taken = λ w l. take_code w code;
   done = λ w s journal l h.
@@ -186,7 +186,7 @@ j_agrees code inst is = record {
 
 pub jump_to_register_agrees : (f3 code : ℕ) (inst : ℕ → ℕ → ℕ → Inst) →
     ((s : MachineState) (journal : List (List ℕ)) (d a m : ℕ) →
-    happened s journal (effect_in s (inst d a m)) ≡ jumped s d (wrapped (x s a + m) / 2 * 2)) →
+    applied s journal (effect_in s (inst d a m)) ≡ jumped s d (wrapped (x s a + m) / 2 * 2)) →
     Agrees (jump_to_register f3 code) (decode.i_row code f3 inst)
 jump_to_register_agrees f3 code inst is = record {
   taken = λ w l. take_funct3 w f3 code;
@@ -200,7 +200,7 @@ jump_to_register_agrees f3 code inst is = record {
 -- the rest
 pub fence_agrees : (f3 code : ℕ) (inst : ℕ → Inst) →
     ((s : MachineState) (journal : List (List ℕ)) (w : ℕ) →
-    happened s journal (effect_in s (inst w)) ≡ gone_on s) →
+    applied s journal (effect_in s (inst w)) ≡ gone_on s) →
     Agrees (fence f3 code) (decode.fence_row code f3 inst)
 fence_agrees f3 code inst is = record {
   taken = λ w l. take_funct3 w f3 code;
@@ -240,7 +240,7 @@ all_fixed w f12 a f3 d code n l e ha hf hd hc h12 =
 pub environment_agrees : (f12 a f3 d code word : ℕ) (asked : MachineState → List (List ℕ) → MachineState) (inst : Inst) →
     word ≡ f12 * 2 ^ 20 + a * 2 ^ 15 + f3 * 2 ^ 12 + d * 2 ^ 7 + code →
     a < 2 ^ 5 → f3 < 2 ^ 3 → d < 2 ^ 5 → code < 2 ^ 7 → f12 < 2 ^ 12 →
-    ((s : MachineState) (journal : List (List ℕ)) → asked s journal ≡ happened s journal (effect_in s inst)) →
+    ((s : MachineState) (journal : List (List ℕ)) → asked s journal ≡ applied s journal (effect_in s inst)) →
     Agrees (environment f12 a f3 d code asked) (decode.word_row word inst)
 environment_agrees f12 a f3 d code word asked inst e ha hf hd hc h12 is = record {
   taken = λ w l. all_fixed w f12 a f3 d code word l e ha hf hd hc h12;

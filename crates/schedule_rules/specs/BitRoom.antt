@@ -1,4 +1,4 @@
--- Room for positions.
+-- Whether a level's set of bits has a bit for each state.
 use Rattle.std.specs.Prelude.{◌≡◌, ℕ, ◌+◌, ◌/◌, length}
 use Rattle.schedule_rules.specs.declared.config.LevelHeld.{LevelHeld}
 

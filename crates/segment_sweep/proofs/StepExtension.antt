@@ -5,7 +5,7 @@ use Rattle.rv_machine.specs.MachineState.{MachineState}
 use Rattle.rv_machine.specs.StepTable.{next}
 use Rattle.rv_machine.specs.States.{state_number}
 use Rattle.segment_sweep.specs.MarkedRun.{MarkedRun, StandFor}
-use Rattle.segment_sweep.specs.SegmentResults.{no_quest}
+use Rattle.segment_sweep.specs.SegmentResults.{no_query}
 
 pub one_more : (s : MachineState) (journal : List (List ℕ)) (n m : ℕ) (t : MachineState) → t ≡ state_number s journal n → m ≡ suc n → next t journal ≡ state_number s journal m
 one_more s journal n m t e f = ap (λ x. next x journal) e ∙ ap (λ k. state_number s journal k) (sym f)
@@ -22,7 +22,7 @@ some_is x y e = cc
 
 -- the first mark is the start of the run
 abbrev pub first_mark : MarkedRun → MachineState
-first_mark m = slice_index_or m.states 0 no_quest.start
+first_mark m = slice_index_or m.states 0 no_query.start
 
 at_front : (xs : List MachineState) (x other : MachineState) → slice_get xs 0 ≡ Some x → slice_index_or xs 0 other ≡ x
 at_front [] x other e = absurd cc
@@ -31,4 +31,4 @@ at_front (y ∷ xs) x other e = some_is y x e
 pub first_mark_lem : (start : MachineState) (journal : List (List ℕ)) (m : MarkedRun) → StandFor start journal m → first_mark m ≡ start
 first_mark_lem start journal m h =
     let some : 0 < length m.states = marks_some m.count m.width (length m.states) h.enough in
-    at_front m.states start no_quest.start (h.each 0 some ∙ ap (λ (s : MachineState). Some s) (same_number start journal (0 * m.width) 0 (omega arith)))
+    at_front m.states start no_query.start (h.each 0 some ∙ ap (λ (s : MachineState). Some s) (same_number start journal (0 * m.width) 0 (omega arith)))

@@ -1,12 +1,12 @@
 // Laws of the search. Each function does nothing; its contract is the law.
 ghost use Rattle.std.specs.Prelude.{◌≡◌, ℕ, ◌+◌, ◌*◌, ◌<◌, ◌≤◌, Option};
-ghost use Rattle.segment_sweep.specs.LastMatch.{Quest, Found};
+ghost use Rattle.segment_sweep.specs.LastMatch.{Query, Found};
 ghost use Rattle.segment_sweep.specs.MarkedRun.{segment_width, last_start};
 
-/// Each quest has one answer: the last place, or that there is none.
-pub fn quests_have_one_answer()
-    ensures some { (q : Quest) → (a : Option ℕ) × Found q a }
-    ensures one { (q : Quest) (a b : Option ℕ) → Found q a → Found q b → a ≡ b }
+/// Each query has one answer: the last place, or that there is none.
+pub fn queries_have_one_answer()
+    ensures some { (q : Query) → (a : Option ℕ) × Found q a }
+    ensures one { (q : Query) (a b : Option ℕ) → Found q a → Found q b → a ≡ b }
 {}
 
 /// Segments have the least width with which they reach past state `count`. The last one begins no later than this

@@ -2,9 +2,9 @@
 ghost use Rattle.std.specs.Prelude.{ℕ, ◌*◌, ◌<◌, ◌≤◌, IfOk, length, slice_index_or};
 ghost use Rattle.plan_types.specs.declared.limits.TheConstants.{MOST_STEPS};
 ghost use Rattle.rv_machine.specs.Prelude.{MachineState};
-ghost use Rattle.segment_sweep.specs.LastMatch.{Quest, Found};
+ghost use Rattle.segment_sweep.specs.LastMatch.{Query, Found};
 ghost use Rattle.segment_sweep.specs.MarkedRun.{StandFor};
-ghost use Rattle.segment_sweep.specs.SegmentResults.{Covers, CoversSegment, IsQuest};
+ghost use Rattle.segment_sweep.specs.SegmentResults.{Covers, CoversSegment, IsQuery};
 
 use crate::marks::Marks;
 use crate::worker::{Sought, Word, worker};
@@ -18,7 +18,7 @@ use std::thread::Threads;
 
 // The later of two places.
 fn later(first: Option<u32>, second: Option<u32>) -> Option<u32>
-    ensures { (q : Quest) (a b c : ℕ) → Covers q a b first → Covers q b c second → Covers q a c result }
+    ensures { (q : Query) (a b c : ℕ) → Covers q a b first → Covers q b c second → Covers q a c result }
 {
     match (first, second) {
         (Some(one), Some(other)) => Some(one.max(other)),
@@ -32,9 +32,9 @@ fn last_place<K: Sought>(
     answers: &[Result<Option<u32>, AllocError>],
     width: u32,
 ) -> Result<Option<u32>, AllocError>
-    requires each { (i : ℕ) (d : _) → i < length answers.now → CoversSegment K.quest width i (slice_index_or answers.now i d) }
-    requires enough { K.quest.count < length answers.now * width }
-    ensures { IfOk result (λ place. Found K.quest place) }
+    requires each { (i : ℕ) (d : _) → i < length answers.now → CoversSegment K.query width i (slice_index_or answers.now i d) }
+    requires enough { K.query.count < length answers.now * width }
+    ensures { IfOk result (λ place. Found K.query place) }
 {
     let mut last = None;
     for answer in answers {
@@ -46,7 +46,7 @@ fn last_place<K: Sought>(
     Ok(last)
 }
 
-// The search for a given quest.
+// The search for a given query.
 fn search<K: Sought + Sync, R: Threads + Sync, G: Gate + Sync>(
     rt: &R,
     alloc: Global,
@@ -55,13 +55,13 @@ fn search<K: Sought + Sync, R: Threads + Sync, G: Gate + Sync>(
     digest: &[u8; 32],
     gate: &G,
 ) -> Result<Option<u32>, AllocError>
-    requires quest { IsQuest K.quest marks.now journal.now digest.now }
-    ensures { IfOk result (λ place. Found K.quest place) }
+    requires query { IsQuery K.query marks.now journal.now digest.now }
+    ensures { IfOk result (λ place. Found K.query place) }
 {
     let word = AtomicIn::<Word<K>>::new(0);
     let one = |segment: usize| -> Result<Option<u32>, AllocError>
-        requires { (segment < length marks.now.states) × IsQuest K.quest marks.now journal.now digest.now }
-        ensures { CoversSegment K.quest marks.entry.now.width segment result }
+        requires { (segment < length marks.now.states) × IsQuery K.query marks.now journal.now digest.now }
+        ensures { CoversSegment K.query marks.entry.now.width segment result }
     { worker::<K, G>(marks, journal, digest, gate, &word, segment) };
     let answers = thread::map_indices(rt, alloc, marks.segments(), &one)?;
     last_place::<K>(&answers, marks.width())

@@ -5,8 +5,8 @@ ghost use Rattle.plan_types.specs.declared.limits.TheConstants.{MOST_STEPS};
 ghost use Rattle.rv_machine.specs.Prelude.{state_number, IsBlankOf};
 ghost use Rattle.state_image.specs.Prelude.{image};
 ghost use Rattle.sha2.specs.Sha256.{sha256};
-ghost use Rattle.segment_sweep.specs.LastMatch.{Quest};
-ghost use Rattle.segment_sweep.specs.SegmentResults.{Covers, CoversSegment, IsWord, IsQuest, no_quest};
+ghost use Rattle.segment_sweep.specs.LastMatch.{Query};
+ghost use Rattle.segment_sweep.specs.SegmentResults.{Covers, CoversSegment, IsWord, IsQuery, no_query};
 
 use crate::marks::Marks;
 use input_journal::Journal;
@@ -19,13 +19,13 @@ use std::sync::atomic::Ordering::SeqCst;
 use std::sync::atomic::{AtomicIn, Rule};
 use std::sync::ledger::{Blank, Ledger};
 
-/// What a search looks for. Each search has a quest of its own.
+/// What a search looks for. Each search has a query of its own.
 pub(crate) trait Sought {
-    ghost quest: { Quest };
+    ghost query: { Query };
 }
 
 impl Sought for Brand {
-    ghost quest = { no_quest };
+    ghost query = { no_query };
 }
 
 /// The rule of the word that workers share.
@@ -34,7 +34,7 @@ pub(crate) struct Word<K: Sought> {
 }
 
 impl<K: Sought> Rule for Word<K> {
-    ghost invariant = { λ word. IsWord K.quest word };
+    ghost invariant = { λ word. IsWord K.query word };
 }
 
 // Whether the image of a state has the digest.
@@ -58,11 +58,11 @@ fn sweep<K: Sought, G: Gate, L: Ledger>(
     blank: Blank,
 ) -> Option<u32>
     requires ledger { IsBlankOf blank.name blank.parts L.name L.parts }
-    requires journal { journal.now ≡ K.quest.journal }
-    requires digest { digest.now ≡ K.quest.digest }
-    requires within { (from ≤ to) × (to ≤ K.quest.count + 1) × (K.quest.count ≤ MOST_STEPS) }
-    requires state { state ≡ state_number K.quest.start K.quest.journal from }
-    ensures { Covers K.quest from to result }
+    requires journal { journal.now ≡ K.query.journal }
+    requires digest { digest.now ≡ K.query.digest }
+    requires within { (from ≤ to) × (to ≤ K.query.count + 1) × (K.query.count ≤ MOST_STEPS) }
+    requires state { state ≡ state_number K.query.start K.query.journal from }
+    ensures { Covers K.query from to result }
 {
     let mut steps = Steps::<L>::new(blank);
     let mut found = None;
@@ -94,8 +94,8 @@ pub(crate) fn worker<K: Sought, G: Gate>(
     segment: usize,
 ) -> Result<Option<u32>, AllocError>
     requires segment { segment < length marks.now.states }
-    requires quest { IsQuest K.quest marks.now journal.now digest.now }
-    ensures { CoversSegment K.quest marks.now.width segment result }
+    requires query { IsQuery K.query marks.now journal.now digest.now }
+    ensures { CoversSegment K.query marks.now.width segment result }
 {
     let state = marks.mark(segment).clone()?;
     let from = segment as u32 * marks.width();

@@ -16,11 +16,11 @@ pub fn part_on<L: Ledger>(
     ensures ends { EndsForward timeline.old.run stops.now timeline.old.place timeline.new.place result }
     ensures counted { steps.new + timeline.old.place ≡ steps.old + timeline.new.place }
 {
-    if let Part::Ended(hit) = timeline.begin_on(stops, steps) {
+    if let Part::Ended(hit) = timeline.begin_forward(stops, steps) {
         return hit;
     }
     loop {
-        let part = timeline.look_on(stops, steps);
+        let part = timeline.look_forward(stops, steps);
         timeline.are_places();
         if let Part::Ended(hit) = part {
             return hit;
@@ -61,7 +61,7 @@ pub fn steps_on<L: Ledger>(
     ensures { steps.new ≤ steps.old + count }
 {
     for _done in 0..count {
-        let step = timeline.step_on(stops, steps);
+        let step = timeline.step_forward(stops, steps);
         if step != Step::Went {
             return step;
         }

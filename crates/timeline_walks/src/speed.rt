@@ -111,8 +111,8 @@ fn move_over<L: Ledger>(
     steps: &mut Steps<L>,
 ) -> io::Result<()> {
     let since = rt.thread_cpu_time()?;
-    let hit = timeline.run_on(stops, steps);
-    tell(rt, "run_on", since)?;
+    let hit = timeline.run_forward(stops, steps);
+    tell(rt, "run_forward", since)?;
     tell_end(rt, hit, timeline)?;
     let since = rt.thread_cpu_time()?;
     let hit = timeline.run_back(stops, steps);

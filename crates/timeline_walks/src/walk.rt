@@ -101,7 +101,7 @@ impl Walk {
             }
             Move::StepOn(count) => step_text(alloc, steps_on(timeline, stops, count, steps)),
             Move::StepBack(count) => step_text(alloc, steps_back(timeline, stops, count, steps)),
-            Move::RunOn => hit_text(alloc, timeline.run_on(stops, steps)),
+            Move::RunOn => hit_text(alloc, timeline.run_forward(stops, steps)),
             Move::RunBack => hit_text(alloc, timeline.run_back(stops, steps)),
             Move::PartOn => hit_text(alloc, part_on(timeline, stops, steps)),
             Move::PartBack => hit_text(alloc, part_back(timeline, stops, steps)),

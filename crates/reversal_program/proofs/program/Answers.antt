@@ -23,9 +23,9 @@ returns-clause-done g c =
     IsRun g.D.Disk.told g.W.Write.contents words told asked call.new.inputs.asked faults call.new.inputs.faults ks.items call.new.keepers.items sink call.new.out
     c.args.steps.now call.new.steps call.result in
     let first : Run (g.D.Disk.told inputs.disk) inputs.asked inputs.faults out = record {
-      says = top.words;
+      says = top.says;
       unread = λ e refuses. (let h = top.unread e refuses in (h.0, ap (λ i. i.asked) h.1, ap (λ i. i.faults) h.1));
-      asks = top.asked;
+      asks = top.asks;
       input = top.input;
       input_cause = top.input_cause;
       input_quiet = top.input_quiet;

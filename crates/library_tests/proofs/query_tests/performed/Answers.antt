@@ -4,7 +4,7 @@ use Rattle.level_book.specs.BookCosts.{slots_of}
 use Rattle.level_book.specs.Valid.{Valid}
 use Rattle.reverse_runner.specs.KeepersSeen.{HaveRoom}
 use Rattle.reverse_runner.specs.SessionState.{SessionState}
-use Rattle.reverse_queries.specs.ListPerformance.{AwaitsList}
+use Rattle.reverse_queries.specs.ListExecution.{AwaitsList}
 use Rattle.library_tests.proofs.query_tests.performed.Goals as goal
 
 pub ask_session-step-requires-clause-awaits : goal.ask_session-step-requires-clause-awaits

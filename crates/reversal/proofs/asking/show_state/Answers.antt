@@ -9,7 +9,7 @@ use Rattle.reverse_runner.specs.KeepersSeen.{told_by, calls_to}
 use Rattle.reverse_runner.specs.SessionState.{SessionState, holdings_of}
 use Rattle.reverse_runner.specs.ActionEffects.{Holdings}
 use Rattle.reverse_queries.specs.HoldingsTrace.{GoesThrough}
-use Rattle.reverse_queries.specs.ListPerformance.{done_after, MissesState, FaultFits, RefusedIn}
+use Rattle.reverse_queries.specs.ListExecution.{done_after, MissesState, FaultFits, RefusedIn}
 use Rattle.reverse_queries.specs.Queries.{front_to}
 use Rattle.endings.specs.declared.outcome.Outcome.{Outcome}
 use Rattle.requests.specs.declared.question.Question.TheVariants.{State}

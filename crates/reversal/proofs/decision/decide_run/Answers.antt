@@ -25,10 +25,10 @@ returns-in_ok-over-in-Named-clause-decided c =
     let D : Schedule → Job → Type 0 = λ s j.
     Decided (over_loaded perform c.args.options.now (as_schedule s) c.args.backward.now.run.steps (contents_of c.args.loaded.now) c.args.counts.now) (accept j) in
     record {
-      accepted = subst (λ s. D s (job_of c.performance.result)) (sym c.in-Named.is)
-          (subst (D (Named c.in-Named.field-0)) (sym c.performance.ensures.job) (c.in_ok-over-in-Named.ensures.accepted perform));
-      can_be_done = c.performance.ensures.can_be_done c.in_ok-over-in-Named.ensures.over;
-      room = c.performance.ensures.room c.args.counts.now c.in_ok-over-in-Named.ensures.room;
+      accepted = subst (λ s. D s (job_of c.execution.result)) (sym c.in-Named.is)
+          (subst (D (Named c.in-Named.field-0)) (sym c.execution.ensures.job) (c.in_ok-over-in-Named.ensures.accepted perform));
+      can_be_done = c.execution.ensures.can_be_done c.in_ok-over-in-Named.ensures.over;
+      room = c.execution.ensures.room c.args.counts.now c.in_ok-over-in-Named.ensures.room;
       refused = tt;
     }
 

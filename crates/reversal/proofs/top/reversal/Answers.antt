@@ -26,8 +26,8 @@ has_status e o is = λ i. (is i).status
 said_outside : (g : Over) (c : goal.After-from-in-Some-refusal g) → Says (words_of c.args.words.now) (request_of c.in-Some.request)
 said_outside g c = let P : _ → Type 0 = λ l. Says (map (λ w. w.items) l) (request_of c.in-Some.request) in subst P c.deref.ensures.value c.in-Some.ensures.found
 
-pub returns-in-Some-refusal-clause-words : goal.returns-in-Some-refusal-clause-words
-returns-in-Some-refusal-clause-words g c = (
+pub returns-in-Some-refusal-clause-says : goal.returns-in-Some-refusal-clause-says
+returns-in-Some-refusal-clause-says g c = (
   λ two. absurd (refused_not_two (request_of c.in-Some.request) c.in-Some-refusal.refusal c.in-Some-refusal.ensures (sym (has_status _ c.in-Some-refusal.refusal c.from-in-Some-refusal.ensures) ∙ two)),
   λ none. absurd (none (request_of c.in-Some.request) (said_outside g c)),
 )
@@ -64,8 +64,8 @@ come_to g c =
     let P : _ → Type 0 = λ l. Comes (request_of c.in-Some.request) (g.I.Inputs.told c.args.inputs.now) (g.I.Inputs.asked c.args.inputs.now) (g.I.Inputs.asked c.prepared.new.inputs) (map g.K.Storage.slot_count l) (accept (job_of c.in-Ok.job)) in
     subst P c.deref-2.ensures.value c.in-Ok.ensures.comes
 
-pub returns-in-Ok-clause-words : goal.returns-in-Ok-clause-words
-returns-in-Ok-clause-words g c = (
+pub returns-in-Ok-clause-says : goal.returns-in-Ok-clause-says
+returns-in-Ok-clause-says g c = (
   λ two.
       let ended = sym (has_status _ c.work.result c.from-in-Ok.ensures) ∙ two in
       elim c.work.ensures.works [
@@ -78,8 +78,8 @@ returns-in-Ok-clause-words g c = (
 pub returns-in-Ok-clause-unread : goal.returns-in-Ok-clause-unread
 returns-in-Ok-clause-unread g c e refuses = absurd (not_refused (words_of c.args.words.now) (request_of c.in-Some.request) e (said_job g c) c.in_default-refusal.ensures refuses)
 
-pub returns-in-Ok-clause-asked : goal.returns-in-Ok-clause-asked
-returns-in-Ok-clause-asked g c r asks =
+pub returns-in-Ok-clause-asks : goal.returns-in-Ok-clause-asks
+returns-in-Ok-clause-asks g c r asks =
     let P : Request → Type 0 = λ x. (k : ℕ) × (g.I.Inputs.asked c.prepared.new.inputs ≡ g.I.Inputs.asked c.args.inputs.now ++ take k (names (inputs_of x.command))) in
     subst P (one_request (words_of c.args.words.now) (request_of c.in-Some.request) r (said_job g c) asks.says) c.prepared.ensures.asked
 
@@ -129,8 +129,8 @@ returns-in-Ok-clause-memory g c e17 =
 said_refusal : (g : Over) (c : goal.After-from-in-Err g) → Says (words_of c.args.words.now) (request_of c.in-Some.request)
 said_refusal g c = let P : _ → Type 0 = λ l. Says (map (λ w. w.items) l) (request_of c.in-Some.request) in subst P c.deref.ensures.value c.in-Some.ensures.found
 
-pub returns-in-Err-clause-words : goal.returns-in-Err-clause-words
-returns-in-Err-clause-words g c = (
+pub returns-in-Err-clause-says : goal.returns-in-Err-clause-says
+returns-in-Err-clause-says g c = (
   λ two.
       let ended = sym (has_status _ c.in-Err.refusal c.from-in-Err.ensures) ∙ two in
       elim c.in-Err.ensures.refused [
@@ -146,8 +146,8 @@ returns-in-Err-clause-words g c = (
 pub returns-in-Err-clause-unread : goal.returns-in-Err-clause-unread
 returns-in-Err-clause-unread g c e refuses = absurd (not_refused (words_of c.args.words.now) (request_of c.in-Some.request) e (said_refusal g c) c.in_default-refusal.ensures refuses)
 
-pub returns-in-Err-clause-asked : goal.returns-in-Err-clause-asked
-returns-in-Err-clause-asked g c r asks =
+pub returns-in-Err-clause-asks : goal.returns-in-Err-clause-asks
+returns-in-Err-clause-asks g c r asks =
     let P : Request → Type 0 = λ x. (k : ℕ) × (g.I.Inputs.asked c.prepared.new.inputs ≡ g.I.Inputs.asked c.args.inputs.now ++ take k (names (inputs_of x.command))) in
     subst P (one_request (words_of c.args.words.now) (request_of c.in-Some.request) r (said_refusal g c) asks.says) c.prepared.ensures.asked
 

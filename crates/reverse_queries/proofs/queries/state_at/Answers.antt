@@ -14,7 +14,7 @@ use Rattle.reverse_runner.specs.VisitorCalls.{states_out}
 use Rattle.reverse_runner.specs.SessionState.{holdings_of}
 use Rattle.reverse_queries.specs.Queries.{hands_out, front_to}
 use Rattle.reverse_queries.specs.QuestionEffects.{Performed}
-use Rattle.reverse_queries.specs.ListPerformance.{GetsState, MissesState}
+use Rattle.reverse_queries.specs.ListExecution.{GetsState, MissesState}
 use Rattle.reverse_queries.specs.PickVisitor.{PassesOn}
 use Rattle.reverse_queries.proofs.ActionCalls.{fault_fits, if_err_at}
 use Rattle.reverse_queries.proofs.ListPrefixes.{front_past, front_ends, front_takes}

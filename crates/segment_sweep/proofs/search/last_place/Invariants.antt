@@ -4,5 +4,5 @@ use Rattle.segment_sweep.proofs.search.last_place.Given as goal
 
 abbrev pub invariant-loop-answer : goal.invariant-loop-answer
 invariant-loop-answer g l =
-    let quest = g.K.Sought.quest in
-    Covers quest 0 (min (l.answer-index * l.width) (quest.count + 1)) l.last
+    let query = g.K.Sought.query in
+    Covers query 0 (min (l.answer-index * l.width) (query.count + 1)) l.last

@@ -14,7 +14,7 @@ overflow_cast-result g c =
 
 pub loop-n-preserved : goal.loop-n-preserved
 loop-n-preserved g c =
-    let q = g.K.Sought.quest in
+    let q = g.K.Sought.query in
     let n = c.loop-n.n in
     let from = c.args.from in
     let stands = c.loop-n.invariant.state in

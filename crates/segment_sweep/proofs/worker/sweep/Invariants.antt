@@ -5,9 +5,9 @@ use Rattle.segment_sweep.proofs.worker.sweep.Given as goal
 
 abbrev pub invariant-loop-n : goal.invariant-loop-n
 invariant-loop-n g l =
-    let quest = g.K.Sought.quest in
+    let query = g.K.Sought.query in
     record {
       from : l.from ≤ l.n;
-      state : l.state ≡ state_number quest.start quest.journal l.n;
-      covers : Covers quest l.from l.n l.found;
+      state : l.state ≡ state_number query.start query.journal l.n;
+      covers : Covers query l.from l.n l.found;
     }

@@ -4,7 +4,7 @@ use Rattle.segment_sweep.proofs.worker.worker.Goals as goal
 
 pub overflow_cast-from : goal.overflow_cast-from
 overflow_cast-from g c =
-    let quest = c.requires.quest in
-    let stand = quest.stand in
+    let query = c.requires.query in
+    let stand = query.stand in
     let below = no_more c.args.segment c.args.marks.now.width c.args.marks.now.count stand.wide (stand.within c.args.segment c.requires.segment) in
-    record { fits = omega (arith, below, quest.same_count, quest.few) }
+    record { fits = omega (arith, below, query.same_count, query.few) }

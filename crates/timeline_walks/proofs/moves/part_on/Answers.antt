@@ -1,5 +1,5 @@
 use Rattle.std.proofs.Common.{◌≡◌, ◌<◌, max, sym, ap, subst, ◌∙◌, arith}
-use Rattle.run_timeline.specs.Moves.{Run, EndsForward, CameOn}
+use Rattle.run_timeline.specs.Moves.{Run, EndsForward, CameForward}
 use Rattle.run_timeline.specs.TimelineState.{TimelineState}
 use Rattle.timeline_walks.proofs.moves.part_on.Goals as goal
 
@@ -17,21 +17,21 @@ returns-in-Ended-part-clause-ends g c =
     let st = c.args.stops.now in
     let inv = c.loop-hit.invariant in
     let run : c.loop-hit.timeline.run ≡ now.run = ap (λ (x : TimelineState). x.run) inv.stays in
-    let came = subst (λ (r : Run). CameOn r st now.place c.loop-hit.timeline.place) (sym run) inv.came in
-    subst (λ (r : Run). EndsForward r st now.place c.look_on-part.new.self.place c.in-Ended-part.hit) run (c.in-Ended-part.ensures.ends now.place inv.behind came)
+    let came = subst (λ (r : Run). CameForward r st now.place c.loop-hit.timeline.place) (sym run) inv.came in
+    subst (λ (r : Run). EndsForward r st now.place c.look_forward-part.new.self.place c.in-Ended-part.hit) run (c.in-Ended-part.ensures.ends now.place inv.behind came)
 
 pub loop-hit-preserved : goal.loop-hit-preserved
 loop-hit-preserved g c =
     let now = c.args.timeline.now in
     let st = c.args.stops.now in
     let inv = c.loop-hit.invariant in
-    let new = c.look_on-part.new.self in
+    let new = c.look_forward-part.new.self in
     let further : c.loop-hit.timeline.place < new.place = c.in_default-part.ensures.further in
     let run : c.loop-hit.timeline.run ≡ now.run = ap (λ (x : TimelineState). x.run) inv.stays in
-    let came = subst (λ (r : Run). CameOn r st now.place c.loop-hit.timeline.place) (sym run) inv.came in
+    let came = subst (λ (r : Run). CameForward r st now.place c.loop-hit.timeline.place) (sym run) inv.came in
     record {
-      stays = further_on now c.loop-hit.timeline new inv.stays c.look_on-part.ensures.stays further;
+      stays = further_on now c.loop-hit.timeline new inv.stays c.look_forward-part.ensures.stays further;
       behind = omega (arith, inv.behind, further);
-      came = subst (λ (r : Run). CameOn r st now.place new.place) run (c.in_default-part.ensures.ends now.place inv.behind came);
-      counted = omega (arith, inv.counted, c.look_on-part.ensures.counted);
+      came = subst (λ (r : Run). CameForward r st now.place new.place) run (c.in_default-part.ensures.ends now.place inv.behind came);
+      counted = omega (arith, inv.counted, c.look_forward-part.ensures.counted);
     }

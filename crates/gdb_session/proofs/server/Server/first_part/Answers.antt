@@ -6,10 +6,10 @@ use Rattle.gdb_session.proofs.server.Server.first_part.Goals as goal
 pub push_output-requires : goal.push_output-requires
 push_output-requires g c =
     let s = c.args.self.now in
-    let e = c.begin_on-part.new.self in
-    let run = ap (λ (d : Debugger). d.run) c.begin_on-part.ensures.stays in
+    let e = c.begin_forward-part.new.self in
+    let run = ap (λ (d : Debugger). d.run) c.begin_forward-part.ensures.stays in
     let from = c.place-from.ensures in
-    let order = c.begin_on-part.ensures.order in
+    let order = c.begin_forward-part.ensures.order in
     record {
       behind = omega (arith, order, from);
       counted = counted_there s.session e c.place-from.result c.written-written.result from c.written-written.ensures run;
@@ -18,5 +18,5 @@ push_output-requires g c =
 pub returns-clause-shown : goal.returns-clause-shown
 returns-clause-shown g c =
     let s = c.args.self.now in
-    let e = c.begin_on-part.new.self in
-    shown_after s (record s { session = e }) c.push_output.new.self c.place-from.result c.place-from.ensures c.begin_on-part.ensures.stays refl refl c.in_ok-push_output.ensures.shows c.push_output.ensures.same
+    let e = c.begin_forward-part.new.self in
+    shown_after s (record s { session = e }) c.push_output.new.self c.place-from.result c.place-from.ensures c.begin_forward-part.ensures.stays refl refl c.in_ok-push_output.ensures.shows c.push_output.ensures.same

@@ -8,7 +8,7 @@ returns-in_err-halt-in-Step-clause-partly g c = at_error _ (still_breaks c.args.
 
 pub returns-in_ok-halt-in-Step-clause-moved : goal.returns-in_ok-halt-in-Step-clause-moved
 returns-in_ok-halt-in-Step-clause-moved g c =
-    still_moved c.args.self.now c.step_on.new.self c.args.motion motion.Step c.in_ok-halt-in-Step.halt (g.N.Line.told c.args.line.now) c.in-Step.is c.in_ok-halt-in-Step.ensures.moved c.step_on.ensures.held
+    still_moved c.args.self.now c.step_forward.new.self c.args.motion motion.Step c.in_ok-halt-in-Step.halt (g.N.Line.told c.args.line.now) c.in-Step.is c.in_ok-halt-in-Step.ensures.moved c.step_forward.ensures.held
 
 pub returns-in-StepBack-clause-moved : goal.returns-in-StepBack-clause-moved
 returns-in-StepBack-clause-moved g c =
