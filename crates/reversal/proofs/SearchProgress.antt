@@ -13,7 +13,7 @@ use Rattle.reversal.specs.Moment.{Moment, KeepersAreQuiet, NothingFails, SinkFai
 use Rattle.reversal.specs.Deeds.{no_calls, writing, Did}
 use Rattle.reversal.specs.Course.{Shown, Course, BreaksOff, EndsShowing}
 use Rattle.reversal.specs.CommandAsk.{answer_text}
-use Rattle.reversal.specs.CommandFind.{quest_of, marking, searching}
+use Rattle.reversal.specs.CommandFind.{query_of, marking, searching}
 use Rattle.reversal.specs.JobModel.{WorksBy}
 use Rattle.reversal.proofs.DeedSequences.{tells_nothing, raised_none, did_then, did_one, is_until_first}
 use Rattle.reversal.proofs.Pieces.{not_called}
@@ -64,7 +64,7 @@ module _ (first : MachineState) (journal : List (List ℕ)) (steps workers : ℕ
         } in
         inr (refl, (found None, (tt, (1, record { breaks = breaks; wants = tt; held = tt; quiet = quiet }))))
 
-    module _ (answer : Option ℕ) (is : Found (quest_of first journal steps digest) answer) (once : c.writes ≡ raised a.writes 1) where
+    module _ (answer : Option ℕ) (is : Found (query_of first journal steps digest) answer) (once : c.writes ≡ raised a.writes 1) where
       -- before the answer was written
       abbrev between : Moment
       between = record { told = a.told; writes = a.writes; faults = a.faults; steps = c.steps; calls = c.calls; images = a.images; keeper_faults = a.keeper_faults }

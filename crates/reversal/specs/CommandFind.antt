@@ -17,8 +17,8 @@ find_table options steps digest program journal =
     over_program options program journal (λ start items. does (seek start items steps (worker_count options) digest))
 
 -- what is looked for: states 0 to `steps` of a run from this one
-abbrev pub quest_of : MachineState → List (List ℕ) → ℕ → List ℕ → Query
-quest_of first journal steps digest = record { start = first; journal = journal; digest = digest; count = steps }
+abbrev pub query_of : MachineState → List (List ℕ) → ℕ → List ℕ → Query
+query_of first journal steps digest = record { start = first; journal = journal; digest = digest; count = steps }
 
 -- The steps to the start of the last segment are taken; each worker has a segment. If memory runs out, only some of
 -- them are.
@@ -35,8 +35,8 @@ searching first journal steps workers digest = record {
   write_place = λ place. 0;
   storage_place = λ place. place;
   shows = λ shown old. Unit {0};
-  answers = λ shown old new. Found (quest_of first journal steps digest) shown.answer;
-  answers_partly = λ shown performed old new. Found (quest_of first journal steps digest) shown.answer;
+  answers = λ shown old new. Found (query_of first journal steps digest) shown.answer;
+  answers_partly = λ shown performed old new. Found (query_of first journal steps digest) shown.answer;
   holds = λ Same shown performed old new. Unit {0};
   damage = λ shown performed level put got old new. ⊥;
   stops = λ shown performed level old new. Unit {0};

@@ -65,7 +65,7 @@ certificate_pieces (Some c) = certificate.pieces c
 abbrev pub pieces_of : plan_in_memory.Plan → List (List ℕ)
 pieces_of p = list_pieces (names_of p.book) (left_of p.actions) ++ certificate_pieces p.certificate
 
--- what a execution and a question go over
+-- what an execution and a question go over
 abbrev pub executed_run : Execution → Run
 executed_run p = in_units p.unit p.start p.journal p.steps (slots_of p.book) (left_of p.actions)
 

@@ -82,7 +82,7 @@ jump_to_register funct3 opcode = record {
   after = λ w s journal. jumps s (rd w) (bits 31 1 (address s w (i_immediate w)) * 2);
 }
 
--- fm, pred, succ, rs1, funct3, rd, opcode: an ordering of memory accesses. Here accesses apply in order, so pc just
+-- fm, pred, succ, rs1, funct3, rd, opcode: an ordering of memory accesses. Here accesses happen in order, so pc just
 -- moves on
 abbrev pub fence : ℕ → ℕ → Row
 fence funct3 opcode = record {
