@@ -31,14 +31,7 @@ pub trait Disk {
         ensures cause { FailsOnlyWhere result (may_fail self.now path.now ⊎ IsAbsent (told self.now) path.now) };
 
     /// Reads a file into `into`, replacing what was there, a piece at a time. It stops soon after `limit` bytes.
-    fn read_whole(
-        &self,
-        path: &str,
-        limit: u32,
-        piece: &mut [u8],
-        into: &mut Vec<u8>,
-    ) -> io::Result<Whole>
-        requires { 0 < length piece.old }
+    fn read_whole(&self, path: &str, limit: u32, into: &mut Vec<u8>) -> io::Result<Whole>
         ensures all { result ≡ Ok Whole.All → WhereTold (told self.now) (λ files. finmap.get files path.now ≡ Some into.new.items) }
         ensures longer { result ≡ Ok Whole.Longer → WhereTold (told self.now) (λ files. IsSomeAnd (finmap.get files path.now) (λ bytes. limit < length bytes)) }
         ensures begun { WhereTold (told self.now) (λ files. Begins into.new.items (bytes_in files path.now)) }
@@ -93,15 +86,9 @@ impl<R: Files> Disk for SystemDisk<R> {
         read_first(&mut fs::open(&self.rt, path)?, room)
     }
 
-    fn read_whole(
-        &self,
-        path: &str,
-        limit: u32,
-        piece: &mut [u8],
-        into: &mut Vec<u8>,
-    ) -> io::Result<Whole> {
+    fn read_whole(&self, path: &str, limit: u32, into: &mut Vec<u8>) -> io::Result<Whole> {
         into.clear();
-        read_whole(&mut fs::open(&self.rt, path)?, limit, piece, into)
+        read_whole(&mut fs::open(&self.rt, path)?, limit, into)
     }
 
     // The file is always new, so no link is written through.

@@ -15,15 +15,11 @@ use std::alloc::{AllocError, Global};
 use std::io;
 use std::io::ErrorKind;
 
-/// How many bytes a file is asked for at once.
-const PIECE_ROOM: usize = 65536;
-
 /// Reads the files of a disk, by their paths, which are UTF-8.
 #[derive(Drop)]
 pub struct FileInputs<D> {
     disk: D,
     asked: Names,
-    piece: Vec<u8>,
     faults: u64,
 }
 
@@ -37,7 +33,6 @@ impl<D: Disk> FileInputs<D> {
         Self {
             disk,
             asked: Names::new(alloc),
-            piece: Vec::new(alloc),
             faults: 0,
         }
     }
@@ -49,34 +44,20 @@ impl<D: Disk> FileInputs<D> {
         self.faults
     }
 
-    // Makes room for a piece of a file, once.
-    fn reserve_piece(&mut self) -> Result<(), AllocError>
-        ensures ok { OnOk result (0 < vec_len self.new.piece) }
-        ensures rest { self.new ≡ record self.old { piece = self.new.piece } }
-    {
-        if self.piece.is_empty() {
-            self.piece.resize(PIECE_ROOM, 0)?;
-        }
-        Ok(())
-    }
-
-    fn read_path(&mut self, name: &[u8], limit: u32, into: &mut Vec<u8>) -> io::Result<Whole>
-        requires { 0 < vec_len self.old.piece }
-        ensures all { result ≡ Ok Whole.All → WhereTold (D.told self.old.disk) (λ files. finmap.get files name.now ≡ Some into.new.items) }
+    fn read_path(&self, name: &[u8], limit: u32, into: &mut Vec<u8>) -> io::Result<Whole>
+        ensures all { result ≡ Ok Whole.All → WhereTold (D.told self.now.disk) (λ files. finmap.get files name.now ≡ Some into.new.items) }
         ensures longer { result ≡ Ok Whole.Longer →
-            WhereTold (D.told self.old.disk) (λ files. IsSomeAnd (finmap.get files name.now) (λ bytes. limit < length bytes)) }
-        ensures begun { WhereTold (D.told self.old.disk) (λ files. Begins into.new.items (bytes_in files name.now)) }
+            WhereTold (D.told self.now.disk) (λ files. IsSomeAnd (finmap.get files name.now) (λ bytes. limit < length bytes)) }
+        ensures begun { WhereTold (D.told self.now.disk) (λ files. Begins into.new.items (bytes_in files name.now)) }
         ensures within { vec_len into.new ≤ limit }
         ensures reserved { vec_capacity into.old ≤ vec_capacity into.new }
-        ensures rest { self.new ≡ record self.old { piece = self.new.piece } }
-        ensures cause { FailsOnlyWhere result (MayFailAt D.told D.may_fail self.old name.now) }
+        ensures cause { FailsOnlyWhere result (MayFailAt D.told D.may_fail self.now name.now) }
     {
         into.clear();
         let Ok(path) = str::from_utf8(name) else {
             return Err(io::Error::from(ErrorKind::InvalidInput));
         };
-        let piece = self.piece.as_mut_slice();
-        self.disk.read_whole(path, limit, piece, into)
+        self.disk.read_whole(path, limit, into)
     }
 }
 
@@ -103,7 +84,7 @@ impl<D: Disk> Inputs for FileInputs<D> {
         ensures cause { result ≡ Err InputFault.Failed → MayFailAt D.told D.may_fail self.old name.now }
     {
         into.clear();
-        if self.asked.push(name).is_err() || self.reserve_piece().is_err() {
+        if self.asked.push(name).is_err() {
             return Err(InputFault::Memory);
         }
         match self.read_path(name, limit, into) {

@@ -8,6 +8,9 @@ use crate::inputs::Whole;
 use std::io;
 use std::io::{ErrorKind, Read, Write};
 
+// How many bytes a file is asked for at once.
+const PIECE: usize = 65_536;
+
 // Writes a whole piece, and flushes it. After an error a prefix of it was written.
 pub(crate) fn write_whole<W: Write>(out: &mut W, piece: &[u8]) -> io::Result<()>
     ensures ok { OnOk result (Appends (W.contents out.old) (W.contents out.new) piece.now) }
@@ -57,13 +60,7 @@ pub(crate) fn read_first<F: Read>(file: &mut F, room: &mut [u8]) -> io::Result<u
 
 // Reads the rest of a file into `into`, replacing what was there, in pieces. It requests at most one byte past the
 // limit, and keeps none past it.
-pub(crate) fn read_whole<F: Read>(
-    file: &mut F,
-    limit: u32,
-    piece: &mut [u8],
-    into: &mut Vec<u8>,
-) -> io::Result<Whole>
-    requires { 0 < length piece.old }
+pub(crate) fn read_whole<F: Read>(file: &mut F, limit: u32, into: &mut Vec<u8>) -> io::Result<Whole>
     ensures all { result ≡ Ok Whole.All → IfSome (F.remaining file.old) (λ bytes. into.new.items ≡ bytes) }
     ensures longer { result ≡ Ok Whole.Longer → IfSome (F.remaining file.old) (λ bytes. limit < length bytes) }
     ensures begun { IfSome (F.remaining file.old) (λ bytes. Begins into.new.items bytes) }
@@ -71,6 +68,7 @@ pub(crate) fn read_whole<F: Read>(
     ensures within { vec_len into.new ≤ limit }
     ensures reserved { vec_capacity into.old ≤ vec_capacity into.new }
 {
+    let mut piece = [0; PIECE];
     into.clear();
     for _ in 0..u64::MAX {
         let left = limit as usize - into.len();

@@ -5,7 +5,7 @@ ghost use Rattle.rv_machine.specs.Prelude.{IsBlankOf};
 ghost use Rattle.unit_undo.specs.Prelude.{LeadsBack, led_back};
 ghost use Rattle.unit_digests.specs.Prelude.{states_of, AreDigests, HasPages};
 
-use crate::meeting::Meeting;
+use crate::barrier::Barrier;
 use crate::states::first_state;
 use crate::undo_tests::{COUNTING, JOURNAL, take};
 use input_journal::read_journal;
@@ -81,7 +81,7 @@ fn take_digests<L: Ledger, R: Threads + Sync>(
     let mut undo = Undo::begin(alloc, 20, &journal)?;
     take(&mut undo, &mut state, &journal, 20, &mut steps);
     let mut digesters = Digesters::begin(alloc, &state, 20, case.workers)?;
-    let gate = Meeting::new(alloc, case.workers, 0)?;
+    let gate = Barrier::new(alloc, case.workers, 0)?;
     let mut known = known_before(rt, alloc, &state, &undo, &mut digesters, case.first_known)?;
     digesters.digest(rt, &gate, &state, &undo, &mut known);
     assert_eq!(abort; gate.calls(), Some(case.calls));

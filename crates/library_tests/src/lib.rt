@@ -1,10 +1,12 @@
 //! Tests of the other libraries, by their public functions alone. It uses most crates but the upper ones. No crate uses
 //! it. A crate with tests is proved a second time, so these tests share one crate. Without tests it has no function. No
-//! contract says whether workers run in parallel, so a gate in `meeting.rt` tests it.
+//! contract says whether workers run in parallel, so a gate in `barrier.rt` tests it.
 #![tactic(auto)]
 
 #[cfg(test)]
 mod assembler_tests;
+#[cfg(test)]
+mod barrier;
 #[cfg(test)]
 mod console_tests;
 #[cfg(test)]
@@ -17,8 +19,6 @@ mod image_tests;
 mod line_tests;
 #[cfg(test)]
 mod machine_tests;
-#[cfg(test)]
-mod meeting;
 #[cfg(test)]
 mod packet_tests;
 #[cfg(test)]

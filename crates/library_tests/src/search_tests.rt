@@ -4,7 +4,7 @@ ghost use Rattle.std.specs.Prelude.{◌≡◌, ◌≤◌, ◌<◌};
 ghost use Rattle.rv_machine.specs.Prelude.{IsBlankOf};
 ghost use Rattle.plan_types.specs.declared.limits.TheConstants.{MOST_STEPS};
 
-use crate::meeting::Meeting;
+use crate::barrier::Barrier;
 use crate::states::first_state;
 use input_journal::Journal;
 use plan_types::{Gate, NoGate};
@@ -103,7 +103,7 @@ fn find<R: Threads + Sync, G: Gate + Sync>(
 #[test]
 fn workers_search_at_once(rt: HostRuntime) -> Result<(), Fail> {
     for workers in [2, 4, 64] {
-        let gate = Meeting::new(rt.alloc(), workers, 17)?;
+        let gate = Barrier::new(rt.alloc(), workers, 17)?;
         let wanted = Search::new(COUNT_UP, 20 * workers - 1, None, workers);
         assert_eq!(rt; find(&rt, &rt, rt.alloc(), wanted, &gate)?, None);
         assert_eq!(rt; gate.calls(), Some(20));

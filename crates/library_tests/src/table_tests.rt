@@ -2,7 +2,7 @@
 // says what the entries are, and cases of whole calls show it.
 ghost use Rattle.std.specs.Prelude.{◌<◌, ◌≤◌};
 
-use crate::meeting::Meeting;
+use crate::barrier::Barrier;
 use cost_tables::{Cost, Tables};
 use level_book::Book;
 use std::alloc::Global;
@@ -56,7 +56,7 @@ fn fill<R: Threads + Sync>(
 ) -> Result<(), Fail>
     requires { (1 ≤ workers) × (workers ≤ 64) }
 {
-    let gate = Meeting::new(alloc, workers, 17)?;
+    let gate = Barrier::new(alloc, workers, 17)?;
     let book = Book::plain(workers);
     assert!(abort; Tables::fits(steps, &book));
     let tables = Tables::build_with(rt, alloc, steps, &book, workers, &gate)?;
@@ -78,7 +78,7 @@ fn workers_are_at_work_at_once_on_all_rows(rt: HostRuntime) -> Result<(), Fail> 
 // each.
 #[test]
 fn two_workers_fill_the_entries_of_a_row_together(rt: HostRuntime) -> Result<(), Fail> {
-    let gate = Meeting::new(rt.alloc(), 2, 0)?;
+    let gate = Barrier::new(rt.alloc(), 2, 0)?;
     let book = Book::plain(2);
     assert!(rt; Tables::fits(4, &book));
     let tables = Tables::build_with(&rt, rt.alloc(), 4, &book, 2, &gate)?;

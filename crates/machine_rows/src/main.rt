@@ -11,17 +11,17 @@
 ghost use Rattle.std.specs.Prelude.{◌≡◌, ◌<◌, ◌≤◌, ◌%◌};
 ghost use Rattle.rv_machine.specs.Prelude.{IsBlankOf};
 
-mod came;
 mod case;
 mod row;
+mod seen;
 
-use came::{Seen, came_of, run};
 use case::{Case, case_of};
 use case_files::{all_came, exit_code};
 use input_journal::Journal;
 use row::{Row, Stored, row_of};
 use rv_machine::{State, Status, Steps, step};
 use rv_pages::Pages;
+use seen::{Seen, outcome_of, run};
 use serde_json::{Map, Value};
 use std::alloc::{AllocError, Global};
 use std::marker::Brand;
@@ -66,7 +66,7 @@ fn run_line(rt: &HostRuntime, name: &str, number: u64, line: &str) -> io::Result
     if !name.ends_with(".tsv") {
         return run_case(rt, name, number, line);
     }
-    let came = row_came(rt.alloc(), line)?;
+    let came = row_passed(rt.alloc(), line)?;
     if !came {
         println!(rt; "{name}:{number} {line}")?;
     }
@@ -89,7 +89,7 @@ fn run_case(rt: &HostRuntime, name: &str, number: u64, line: &str) -> io::Result
         return Ok(false);
     };
     let seen = seen_by::<Brand>(alloc, case, wanted, Blank::new(1))?;
-    let came = came_of(alloc, &seen, wanted)?;
+    let came = outcome_of(alloc, &seen, wanted)?;
     all_came(rt, name, number, wanted, &came, None)
 }
 
@@ -107,7 +107,7 @@ fn seen_by<L: Ledger>(
 }
 
 // Whether the row of a line passed.
-fn row_came(alloc: Global, line: &str) -> Result<bool, AllocError> {
+fn row_passed(alloc: Global, line: &str) -> Result<bool, AllocError> {
     let Some(row) = row_of(line) else {
         return Ok(false);
     };

@@ -152,13 +152,7 @@ impl Disk for MemoryDisk {
         Ok(count)
     }
 
-    fn read_whole(
-        &self,
-        path: &str,
-        limit: u32,
-        _piece: &mut [u8],
-        into: &mut Vec<u8>,
-    ) -> io::Result<Whole> {
+    fn read_whole(&self, path: &str, limit: u32, into: &mut Vec<u8>) -> io::Result<Whole> {
         into.clear();
         self.call(DiskOp::ReadWhole)?;
         let Some(bytes) = self.find(path.as_bytes()) else {

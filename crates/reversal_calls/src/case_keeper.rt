@@ -1,6 +1,6 @@
 // The keeper of a level in a case.
 
-use crate::came::SeenKeeper;
+use crate::seen::SeenKeeper;
 use keepers::{EitherKeeper, FlipKeeper, MemoryKeeper};
 
 /// A keeper in memory with listed failing calls, or one that gives a wrong bit.

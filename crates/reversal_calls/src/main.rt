@@ -1,7 +1,7 @@
 //! Runs whole calls from files, one JSON text a line, and prints for each file how many passed. It uses `reversal`,
 //! `reversal_program` and `memory_disk`. No crate uses it. It also prints how many passed over files too. A case has a
 //! name, words, inputs, failures, and the expected outcome. `case.rt` reads the words, the inputs and the failures.
-//! `came.rt` describes the outcome. `over_files.rt` repeats the call by the program, over disks in memory. The cases of
+//! `seen.rt` describes the outcome. `over_files.rt` repeats the call by the program, over disks in memory. The cases of
 //! `data/wrong.jsonl` must fail, which tests the reading of cases. `docs/CASES.md` says how to add one.
 #![tactic(auto)]
 
@@ -9,13 +9,12 @@ ghost use Rattle.std.specs.Prelude.{◌≡◌, ◌<◌};
 ghost use Rattle.rv_machine.specs.Prelude.{IsBlankOf};
 
 mod bytes;
-mod came;
 mod case;
 mod case_keeper;
 mod noted;
 mod over_files;
+mod seen;
 
-use came::{Seen, came_of};
 use case::{Case, case_of};
 use case_files::all_came;
 use case_keeper::{CaseKeeper, seen_case_keeper};
@@ -24,6 +23,7 @@ use noted::NotedInputs;
 use over_files::{files_case_of, hold_the_same, run_over_files, seen_of_ran};
 use reversal::{Ended, reversal};
 use rv_machine::Steps;
+use seen::{Seen, outcome_of};
 use serde_json::{Map, Value};
 use std::alloc::{AllocError, Global};
 use std::marker::Brand;
@@ -94,7 +94,7 @@ fn run_line<T: Threads + Sync>(
         return Ok(Outcome::Failed);
     };
     let mut called = called::<T, Brand>(threads, case, Blank::new(1));
-    let came = came_of(alloc, &seen_of(alloc, &called)?, wanted)?;
+    let came = outcome_of(alloc, &seen_of(alloc, &called)?, wanted)?;
     if !all_came(rt, name, number, wanted, &came, UNSEEN)? {
         return Ok(Outcome::Failed);
     }
@@ -128,7 +128,7 @@ fn run_again<T: Threads + Sync>(
         return Ok(Outcome::Passed);
     };
     let mut ran = run_over_files::<T, Brand>(threads, case, Blank::new(1))?;
-    let came = came_of(alloc, &seen_of_ran(alloc, &ran)?, wanted)?;
+    let came = outcome_of(alloc, &seen_of_ran(alloc, &ran)?, wanted)?;
     if !all_came(rt, name, number, wanted, &came, UNSEEN)? {
         println!(rt; "{name}:{number} came otherwise over files")?;
         return Ok(Outcome::Failed);

@@ -10,9 +10,9 @@ ghost use Rattle.requests.specs.Prelude.{Asks, Request, words_of};
 ghost use Rattle.reversal_program.specs.Prelude.{IsRun};
 
 use crate::bytes::bytes_of;
-use crate::came::{Seen, SeenKeeper};
 use crate::case::{failing_call, push, words_of};
 use crate::case_keeper::{CaseKeeper, seen_case_keeper};
+use crate::seen::{Seen, SeenKeeper};
 use case_files::CaseFault;
 use keepers::{AnyKeeper, Disk, EitherKeeper, Keeper, Op};
 use memory_disk::{DiskOp, MemoryDisk};

@@ -16,8 +16,8 @@ ghost use Rattle.reverse_console.specs.MarksOfRun.{Stands, MarksTell, KeepsMarks
 ghost use Rattle.reverse_console.specs.declared.order.Order.{Order as AnOrder};
 ghost use Rattle.reverse_console.specs.ConsoleFields.{console_state, IsConsole};
 
-use crate::going::{go, set_marks};
 use crate::marked_run::MarkedRun;
+use crate::marking::{go, set_marks};
 use crate::marks::Marks;
 use crate::order::{Order, Sought};
 use crate::seeking::{first_after, last_before};

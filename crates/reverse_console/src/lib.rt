@@ -17,10 +17,10 @@
 mod command;
 mod console;
 mod fault;
-mod going;
 pub mod laws;
 mod line;
 mod marked_run;
+mod marking;
 mod marks;
 mod order;
 mod reading;

@@ -9,7 +9,7 @@ ghost use Rattle.reverse_console.specs.MarkInvariant.{IsReady, source, Looks};
 ghost use Rattle.reverse_console.specs.SearchTargets.{Meets, IsSought, MeetsFrom};
 ghost use Rattle.reverse_console.specs.StateSources.{HasPc, IsLastSeen, IsFirstSeen};
 
-use crate::going::recall;
+use crate::marking::recall;
 use crate::marks::Marks;
 use crate::order::Sought;
 use input_journal::Journal;

@@ -61,12 +61,12 @@ impl Walk {
         steps: &mut Steps<L>,
     ) -> Result<Option<String>, AllocError> {
         let (order, wanted) = text.split_once(": ").unwrap_or((text, ""));
-        let came = self.came_of(alloc, order, steps)?;
+        let came = self.outcome_of(alloc, order, steps)?;
         told(alloc, order, wanted, came.as_str())
     }
 
     // The outcome of an order; nothing for `stops`.
-    fn came_of<L: Ledger>(
+    fn outcome_of<L: Ledger>(
         &mut self,
         alloc: Global,
         text: &str,

@@ -1,5 +1,3 @@
-use Rattle.std.proofs.Common.{subst}
-use Rattle.keepers.specs.ExternalState.{MayFailAt}
 use Rattle.keepers.specs.Claims.{bytes_in}
 use Rattle.keepers.proofs.EmptyPrefix.{none_begin}
 use Rattle.keepers.proofs.file_inputs.FileInputsInputs.read.Goals as goal
@@ -8,6 +6,4 @@ pub returns-then-is_err-clause-begun : goal.returns-then-is_err-clause-begun
 returns-then-is_err-clause-begun g c = none_begin (g.D.Disk.told c.args.self.now.disk) c.clear.new.self.items (λ files. bytes_in files c.args.name.now) c.clear.ensures.items
 
 pub returns-in-Err-clause-cause : goal.returns-in-Err-clause-cause
-returns-in-Err-clause-cause g c = (λ _.
-    subst (λ inputs. MayFailAt g.D.Disk.told g.D.Disk.may_fail inputs c.args.name.now) c.reserve_piece.ensures.rest
-    (c.in-Err.ensures.cause (λ kind. cc (c.is_fault.ensures.memory kind))))
+returns-in-Err-clause-cause g c = (λ _. c.in-Err.ensures.cause (λ kind. cc (c.is_fault.ensures.memory kind)))

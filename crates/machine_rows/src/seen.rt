@@ -65,7 +65,7 @@ fn look(words: &mut [Looked], state: &State, journal: &Journal) {
 }
 
 /// The outcome, in all that a case may mention.
-pub fn came_of(
+pub fn outcome_of(
     alloc: Global,
     seen: &Seen,
     wanted: &Map<String, Value>,

@@ -10,7 +10,7 @@ use Rattle.reverse_console.specs.Refusals.{IsNotGot}
 use Rattle.reverse_console.proofs.MarkGets.{err_at, fits_on, gets_as, gets_err, gets_ok, gets_moved, gets_unseen}
 use Rattle.reverse_console.proofs.Numbers.{mark_at_most, mark_of_known}
 use Rattle.reverse_console.proofs.FetchedStates.{went}
-use Rattle.reverse_console.proofs.going.go.Goals as goal
+use Rattle.reverse_console.proofs.marking.go.Goals as goal
 
 pub recall-requires-clause-known : goal.recall-requires-clause-known
 recall-requires-clause-known g c = let known = mark_of_known c.args.marks.now c.args.n in omega (arith, known, c.of-mark.ensures)

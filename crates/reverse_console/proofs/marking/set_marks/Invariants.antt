@@ -7,7 +7,7 @@ use Rattle.reverse_console.specs.Costs.{puts_of}
 use Rattle.reverse_runner.specs.DeskFields.{Fits}
 use Rattle.reverse_console.specs.Marks.{marked, mark_count}
 use Rattle.reverse_console.specs.MarkInvariant.{AreSet, AreKept, StandAt}
-use Rattle.reverse_console.proofs.going.set_marks.Given as goal
+use Rattle.reverse_console.proofs.marking.set_marks.Given as goal
 
 -- the marks so far are set, and the state in work is that of the last of them
 abbrev pub invariant-loop-mark : goal.invariant-loop-mark

@@ -10,20 +10,20 @@ const LOOKS: u32 = 1_000_000;
 /// In each of its calls but the first few, a worker waits until all workers have made as many. If fewer threads than
 /// workers run at once, one of them waits in vain.
 #[derive(Drop)]
-pub(crate) struct Meeting {
+pub(crate) struct Barrier {
     free: u32,
     calls: Vec<AtomicU32>,
     missed: AtomicBool,
 }
 
-impl Meeting {
+impl Barrier {
     /// A gate for so many workers. Each has so many calls in which it doesn't wait.
-    pub(crate) fn new(alloc: Global, workers: u32, free: u32) -> Result<Meeting, AllocError> {
+    pub(crate) fn new(alloc: Global, workers: u32, free: u32) -> Result<Barrier, AllocError> {
         let mut calls = Vec::with_capacity(alloc, workers as usize)?;
         for _ in 0..workers {
             calls.push(AtomicU32::new(0))?;
         }
-        Ok(Meeting {
+        Ok(Barrier {
             free,
             calls,
             missed: AtomicBool::new(false),
@@ -66,7 +66,7 @@ impl Meeting {
     }
 }
 
-impl Gate for Meeting {
+impl Gate for Barrier {
     fn enter(&self, piece: u32) {
         let Some(calls) = self.calls.get(piece as usize) else {
             self.missed.store(true, Ordering::SeqCst);

@@ -23,7 +23,7 @@ use Rattle.reverse_console.proofs.KeeperCalls.{are_after}
 use Rattle.reverse_console.proofs.MarkGets.{fits_on, err_at, at_ok, ok_never}
 use Rattle.reverse_console.proofs.Numbers.{first_known, marked_first, marked_within, one_less}
 use Rattle.reverse_console.proofs.MarkPuts.{puts_more, puts_none, puts_within, next_state, same_mark}
-use Rattle.reverse_console.proofs.going.set_marks.Goals as goal
+use Rattle.reverse_console.proofs.marking.set_marks.Goals as goal
 
 -- what setting a mark leaves, after steps that come before it
 leaves_on : {K T : Type 0} (seen : Ghosts K) (p : MarkPlan) (r : Result T RunFault) (v w x : Desk) (old new : List K) → SamePages v.work w.work → w.store ≡ v.store →
