@@ -25,7 +25,7 @@ struct Input {
     bytes: Vec<u8>,
 }
 
-/// The inputs of the file with this name, if it has any. It prints that there are none.
+/// The inputs of the file with this name. If a line is no input, or memory runs out, it prints that there are none.
 pub(crate) fn read_inputs(rt: &HostRuntime, name: &str) -> io::Result<Option<Inputs>> {
     let text = fs::read_to_string(rt, name)?;
     match inputs_of(rt.alloc(), text.as_str()) {

@@ -3,14 +3,14 @@
 use serde_json::{Map, Value};
 use std::io;
 
-/// Whether the members of an outcome came as wanted, but for one that can't be seen. It prints the others, with the
-/// file's name and the line's number.
+/// Whether the members of an outcome came as wanted, but for one that can't be seen. It prints those that didn't, with
+/// the file's name and the line's number.
 pub fn all_came(
     rt: &HostRuntime,
     name: &str,
     number: u64,
     wanted: &Map<String, Value>,
-    came: &Value,
+    outcome: &Value,
     unseen: Option<&str>,
 ) -> io::Result<bool> {
     let mut all = true;
@@ -18,7 +18,7 @@ pub fn all_came(
         if unseen == Some(member.as_str()) {
             continue;
         }
-        let found = came.get(member.as_str()).unwrap_or(&Value::Null);
+        let found = outcome.get(member.as_str()).unwrap_or(&Value::Null);
         if found != value {
             all = false;
             println!(rt; "{name}:{number} {member}: wanted {value}, came {found}")?;

@@ -1,5 +1,5 @@
-//! A line to a debugger: bytes come in on it, and bytes go out. It uses `keepers`.
-//! `gdb_session` and `reversal_gdb` use it.
+//! A line to a debugger: bytes come in on it, and bytes go out. It uses `keepers`. `gdb_session`, `reversal_gdb` and
+//! `gdb_cases` use it.
 #![tactic(auto)]
 
 mod line;

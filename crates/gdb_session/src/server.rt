@@ -21,7 +21,7 @@ pub enum ServeFault {
     /// A packet has more than 65,536 bytes.
     #[error("a packet is too long")]
     TooLong,
-    /// 2^64 items and pieces came.
+    /// 2^64 - 1 items and pieces came.
     #[error("too much came")]
     TooMuch,
 }

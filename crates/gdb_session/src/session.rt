@@ -166,7 +166,8 @@ impl Session {
         self.timeline.look_back(end, &self.stops, steps)
     }
 
-    /// The bytes to show of what the program wrote on the way from a place. Up to there it had written `written` bytes.
+    /// The bytes to show of what the program wrote on the way from a place. Up to there it had written `written` bytes,
+    /// modulo 2 ^ 64.
     pub(crate) fn output_since<L: Ledger>(
         &mut self,
         alloc: Global,

@@ -1,5 +1,6 @@
-//! The text between gdb and a server of its remote serial protocol. It uses no other crate. `gdb_replies` and `gdb_session` use it. It
-//! covers the items on a line, what a packet asks for, and how a reply is framed.
+//! The text between gdb and a server of its remote serial protocol. It uses no other crate. `gdb_replies`,
+//! `gdb_session` and `gdb_cases` use it. It covers the items on a line, what a packet asks for, and how a reply is
+//! framed.
 //!
 //! Read `specs/` in this order:
 //!

@@ -1,4 +1,4 @@
-// A stretch of a list, and the slots that are free for it.
+// A stretch of a run, and the slots that are free for it.
 
 /// So many steps of a run from state `first` on. So many slots of level `level` are free for them, and the lower levels'
 /// slots too.

@@ -142,7 +142,7 @@ fn memories_with_different_pages_written_are_copied_to_each_other(
 // One item, with the bytes 61 62.
 const ONE_ITEM: &[u8] = b"RVJL\x01\0\0\0\x01\0\0\0\x02\0\0\0ab";
 
-// No item, an empty item, and two items with an empty one between them.
+// One item, no item, an empty one, one that begins like a file of recorded input, and two with an empty one between.
 const JOURNALS: &[(&[u8], &[&[u8]])] = &[
     (ONE_ITEM, &[b"ab"]),
     (b"RVJL\x01\0\0\0\0\0\0\0", &[]),

@@ -114,8 +114,8 @@ fn check_units<L: Ledger>(
     Ok(())
 }
 
-// Goes through the program by units of one step, of two, and of 1,024.
-fn go_there_and_back<L: Ledger>(
+// Goes through the program by units of one step, of two, and of 1,024, and back over each unit.
+fn check_sizes<L: Ledger>(
     rt: &impl Abort,
     alloc: Global,
     journal: &Journal,
@@ -132,5 +132,5 @@ fn go_there_and_back<L: Ledger>(
 #[test]
 fn units_are_undone(rt: HostRuntime) -> Result<(), Fail> {
     let journal = read_journal(rt.alloc(), Vec::from_slice(rt.alloc(), JOURNAL)?)?;
-    Ok(go_there_and_back::<Brand>(&rt, rt.alloc(), &journal, Blank::new(1))?)
+    Ok(check_sizes::<Brand>(&rt, rt.alloc(), &journal, Blank::new(1))?)
 }

@@ -10,7 +10,7 @@ use rv_pages::Pages;
 use serde_json::Value;
 use std::alloc::Global;
 
-/// A state whose pc is 10000, its recorded input, and how many steps it takes.
+/// A state whose pc is 0x10000, its recorded input, and how many steps it takes.
 #[derive(Drop)]
 pub struct Case {
     pub state: State,

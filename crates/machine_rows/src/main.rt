@@ -1,9 +1,9 @@
-//! Runs steps of the machine from files, and prints for each file how many passed. It uses `rv_pages`, `rv_machine` and
-//! `input_journal`. No crate uses it.
+//! Runs steps of the machine from files, and prints for each file how many passed. It uses `rv_pages`, `rv_machine`,
+//! `input_journal` and `case_files`. No crate uses it.
 //!
-//! In a file whose name ends in `.tsv` a line is one step. It has a name and a word. In hexadecimal it has the pc, the
-//! registers rs1 and rs2, and the pc after the step. The number of a register follows, and its value after the step.
-//! For a store an address follows, and the three words from it on.
+//! In a file whose name ends in `.tsv` a line is one step. It has a name, the word, the pc, the registers rs1 and rs2,
+//! and the pc after the step. The number of a register follows, and its value after the step. For a store an address
+//! follows, and the three words from it on. All are hexadecimal but the register's number, which is decimal.
 //!
 //! In any other file a line is a JSON text: see `case.rt`.
 #![tactic(auto)]
@@ -66,11 +66,11 @@ fn run_line(rt: &HostRuntime, name: &str, number: u64, line: &str) -> io::Result
     if !name.ends_with(".tsv") {
         return run_case(rt, name, number, line);
     }
-    let came = row_passed(rt.alloc(), line)?;
-    if !came {
+    let passed = row_passed(rt.alloc(), line)?;
+    if !passed {
         println!(rt; "{name}:{number} {line}")?;
     }
-    Ok(came)
+    Ok(passed)
 }
 
 // Whether the case of a line passed.
@@ -89,11 +89,11 @@ fn run_case(rt: &HostRuntime, name: &str, number: u64, line: &str) -> io::Result
         return Ok(false);
     };
     let seen = seen_by::<Brand>(alloc, case, wanted, Blank::new(1))?;
-    let came = outcome_of(alloc, &seen, wanted)?;
-    all_came(rt, name, number, wanted, &came, None)
+    let outcome = outcome_of(alloc, &seen, wanted)?;
+    all_came(rt, name, number, wanted, &outcome, None)
 }
 
-// The outcome of a case.
+// What is seen of a case.
 fn seen_by<L: Ledger>(
     alloc: Global,
     case: Case,

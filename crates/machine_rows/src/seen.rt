@@ -1,4 +1,4 @@
-// The outcome of a case.
+// What is seen of a case, and its outcome.
 
 use crate::case::{Case, hexadecimal, register_of};
 use input_journal::Journal;
@@ -8,7 +8,7 @@ use serde_json::{Map, Value, json, put};
 use std::alloc::{AllocError, Global};
 use std::sync::ledger::Ledger;
 
-/// The last state, with the words that were read.
+/// The last state, and the words that are looked at.
 #[derive(Drop)]
 pub struct Seen {
     state: State,
@@ -22,7 +22,7 @@ struct Looked {
     wrote: bool,
 }
 
-/// Takes the steps of a case, and reads the words at the addresses that the expected `words` name.
+/// Takes the steps of a case, and notes which of the words that the expected `words` name a step wrote.
 pub fn run<L: Ledger>(
     alloc: Global,
     case: Case,

@@ -1,4 +1,5 @@
-// The kinds of plans that have a name.
+// The kinds of plans without a period.
+
 /// Which list a plan has.
 #[derive(Clone, Copy)]
 pub enum PlanKind {

@@ -1,5 +1,5 @@
-//! What the words of a call ask for, and what is read for it. It uses `line_texts`, `keepers` and `endings`. `reversal`
-//! and both programs use it. `reversal` decides about a request and performs it.
+//! What the words of a call ask for, and what is read for it. It uses `line_texts`, `keepers` and `endings`. `reversal`,
+//! the crates above it and `reversal_gdb` use it. `reversal` decides about a request and performs it.
 //!
 //! Read `specs/` in this order:
 //!

@@ -36,7 +36,7 @@ pub enum Command<'a> {
     PlanPeriodic(PlanPeriodic<'a>),
     /// To judge a schedule.
     Check(ScheduleFor<'a>),
-    /// To show that no list takes fewer forward steps.
+    /// To show by a certificate that a schedule is the least of all valid ones, or of its class.
     Certify(Certify<'a>),
     /// To print what a schedule costs.
     Cost(ScheduleFor<'a>),

@@ -1,4 +1,4 @@
--- No public clause cites this file. What is still to come of the actions of an execution.
+-- No public clause cites this file. What is still to come of the actions of a list.
 use Rattle.std.specs.Prelude.{List}
 use Rattle.plan_types.specs.declared.action.Action.{Action}
 use Rattle.reversal.specs.declared.actions.Actions as in_memory

@@ -67,7 +67,7 @@ pieces_of p = list_pieces (names_of p.book) (left_of p.actions) ++ certificate_p
 
 -- what an execution and a question go over
 abbrev pub executed_run : Execution → Run
-executed_run p = in_units p.unit p.start p.journal p.steps (slots_of p.book) (left_of p.actions)
+executed_run e = in_units e.unit e.start e.journal e.steps (slots_of e.book) (left_of e.actions)
 
 abbrev pub run_over : Over → Run
 run_over o = in_units o.unit o.start o.journal o.steps (slots_of o.book) o.list.items
@@ -81,7 +81,7 @@ abbrev pub moves : ConsoleRun → Job
 moves m = console m.run.start m.run.journal (plan_of m.run) m.orders.items
 
 abbrev pub job_of : in_memory.Job → Job
-job_of (Perform p) = perform (executed_run p)
+job_of (Perform e) = perform (executed_run e)
 job_of (Ask a) = ask a.question (run_over a.over)
 job_of (Find f) = seek f.start f.journal f.steps f.workers f.digest
 job_of (Write text) = write (text ∷ [])
@@ -93,12 +93,12 @@ job_of (Console m) = moves m
 job_of (Demonstrate d) = demonstrate d.number d.start d.steps d.slots
 
 -- a list that is performed is valid
-pub record IsExecutable (p : Execution) : Type 0 where
-  pub steps : p.steps ≤ MOST_STEPS
-  pub unit : (1 ≤ p.unit) × (p.unit ≤ 1024)
-  pub instructions : p.unit * p.steps ≤ MOST_STEPS
-  pub few : length (left_of p.actions) ≤ MOST_ACTIONS
-  pub valid : Valid p.steps (slots_of p.book) (left_of p.actions)
+pub record IsExecutable (e : Execution) : Type 0 where
+  pub steps : e.steps ≤ MOST_STEPS
+  pub unit : (1 ≤ e.unit) × (e.unit ≤ 1024)
+  pub instructions : e.unit * e.steps ≤ MOST_STEPS
+  pub few : length (left_of e.actions) ≤ MOST_ACTIONS
+  pub valid : Valid e.steps (slots_of e.book) (left_of e.actions)
 
 -- the list of a question is valid, and the question's number is within its bounds
 pub record IsOver (o : Over) : Type 0 where

@@ -1,4 +1,4 @@
-// The actions of an execution, one after the other.
+// The actions of a list, one after the other.
 ghost use Rattle.std.specs.Prelude.{◌≡◌, [], ◌∷◌, MatchOption};
 ghost use Rattle.reversal.specs.Prelude.{left_of};
 

@@ -86,7 +86,7 @@ pub fn decide_console(
 {
     let book = book_in(alloc, &loaded.book)?;
     keep(steps.max(1), &book, counts)?;
-    find_slot(steps, &book)?;
+    need_slot(steps, &book)?;
     let (start, journal) = beginning_of(alloc, options, &loaded.program, loaded.journal.take())?;
     let orders = orders_in(alloc, &loaded.script, steps)?;
     let run = MarkedRun {
@@ -99,7 +99,7 @@ pub fn decide_console(
 }
 
 // Requires a slot for a mark on some level of the book.
-fn find_slot(steps: u32, book: &Book) -> Result<(), Outcome>
+fn need_slot(steps: u32, book: &Book) -> Result<(), Outcome>
     ensures slots { OnOk result (1 ≤ total_room book.now (max steps 1)) }
     ensures refused { IfErr result (λ e. (1 ≤ total_room book.now (max steps 1) → ⊥) × (e ≡ no_plan steps (total_room book.now steps) 1)) }
 {

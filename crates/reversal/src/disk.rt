@@ -8,7 +8,7 @@ ghost use Rattle.reversal.specs.Prelude.{DecidesPlanDisk, IsDecided, IsUndisked}
 use crate::actions::{Actions, Listed};
 use crate::decision::book_in;
 use crate::job::Job;
-use crate::planning::plan_text;
+use crate::planning::plan_job;
 use bound_cert::certify_disk;
 use disk_gen::{DiskTables, disk_list};
 use endings::Outcome;
@@ -22,7 +22,7 @@ const MOST_IMAGES: u32 = 64;
 
 /// The decision on a plan of DiskRevolve by its book: the texts of its list and certificate. Any number of workers
 /// gives the same.
-pub fn disk_text<R: Threads + Sync>(
+pub fn decide_disk<R: Threads + Sync>(
     rt: &R,
     alloc: Global,
     workers: u32,
@@ -47,7 +47,7 @@ pub fn disk_text<R: Threads + Sync>(
     let list = disk_list(alloc, &tables, steps, &book)?;
     book.is_within_limits();
     let certificate = certify_disk(tables);
-    let job = plan_text(
+    let job = plan_job(
         alloc,
         Actions::Listed(Listed::new(list)),
         book,

@@ -9,7 +9,7 @@ ghost use Rattle.reversal.specs.Prelude.{IsFirstWide, DecidesPlanHrevolve, IsDec
 use crate::actions::{Actions, Listed};
 use crate::decision::book_in;
 use crate::job::Job;
-use crate::planning::plan_text;
+use crate::planning::plan_job;
 use bound_cert::certify_nested;
 use cost_tables::Tables;
 use endings::Outcome;
@@ -25,7 +25,7 @@ const MOST_IMAGES: u32 = 64;
 
 /// The decision on a plan of H-Revolve by its book: the texts of its list and certificate. Any number of workers gives
 /// the same.
-pub fn hrevolve_text<R: Threads + Sync>(
+pub fn decide_hrevolve<R: Threads + Sync>(
     rt: &R,
     alloc: Global,
     workers: u32,
@@ -48,7 +48,7 @@ pub fn hrevolve_text<R: Threads + Sync>(
     let list = list_for(alloc, &tables, steps, &book)?;
     book.is_within_limits();
     let certificate = certify_nested(tables);
-    let job = plan_text(
+    let job = plan_job(
         alloc,
         Actions::Listed(Listed::new(list)),
         book,

@@ -10,7 +10,7 @@ ghost use Rattle.reversal.specs.Prelude.{DecidesPlanMultistage, IsDecided};
 use crate::actions::Actions;
 use crate::decision::book_in;
 use crate::job::Job;
-use crate::planning::plan_text;
+use crate::planning::plan_job;
 use bound_cert::certify_places;
 use endings::Outcome;
 use level_book::Book;
@@ -19,14 +19,14 @@ use revolve_gen::GenFault;
 use std::alloc::Global;
 
 /// The decision on a multistage plan by the bytes of its book: the texts of its list and certificate.
-pub fn multistage_text(alloc: Global, steps: u32, book: &[u8]) -> Result<Job, Outcome>
+pub fn decide_multistage(alloc: Global, steps: u32, book: &[u8]) -> Result<Job, Outcome>
     requires steps { steps ≤ MOST_STEPS }
     ensures { (counts : List ℕ) → IsDecided (DecidesPlanMultistage steps book.now) counts result }
 {
     let book = book_in(alloc, book)?;
     let plan = plan_for(alloc, steps, &book)?;
     let certificate = certify_places(&plan);
-    let job = plan_text(alloc, Actions::Multistage(plan), book, Some(certificate))?;
+    let job = plan_job(alloc, Actions::Multistage(plan), book, Some(certificate))?;
     Ok(job)
 }
 

@@ -9,7 +9,7 @@ ghost use Rattle.reversal.specs.Prelude.{DecidesPlanPeriodic, IsDecided, IsUnper
 use crate::actions::Actions;
 use crate::decision::book_in;
 use crate::job::Job;
-use crate::planning::plan_text;
+use crate::planning::plan_job;
 use disk_gen::Periodic;
 use endings::Outcome;
 use level_book::Book;
@@ -26,7 +26,7 @@ pub fn decide_periodic(alloc: Global, plan: &PlanPeriodic<'_>, book: &[u8]) -> R
 {
     let book = book_in(alloc, book)?;
     let periodic = periodic_for(alloc, plan.steps as u32, plan.period as u32, &book)?;
-    let job = plan_text(alloc, Actions::Periodic(periodic), book, None)?;
+    let job = plan_job(alloc, Actions::Periodic(periodic), book, None)?;
     Ok(job)
 }
 

@@ -3,11 +3,11 @@ ghost use Rattle.std.specs.Prelude.{ℕ, ◌≤◌, List};
 ghost use Rattle.requests.specs.Prelude.{plan_limit, within, IsWithin};
 ghost use Rattle.reversal.specs.Prelude.{DecidesPlan, IsDecided};
 
-use crate::disk::disk_text;
-use crate::hrevolve::hrevolve_text;
+use crate::disk::decide_disk;
+use crate::hrevolve::decide_hrevolve;
 use crate::job::Job;
-use crate::multistage::multistage_text;
-use crate::planning::revolve_text;
+use crate::multistage::decide_multistage;
+use crate::planning::decide_revolve;
 use endings::Outcome;
 use requests::{PlanFor, PlanKind};
 use std::alloc::Global;
@@ -27,9 +27,9 @@ pub fn decide_plan<R: Threads + Sync>(
 {
     let steps = plan.steps as u32;
     match plan.kind {
-        PlanKind::Revolve => revolve_text(alloc, steps, book),
-        PlanKind::Multistage => multistage_text(alloc, steps, book),
-        PlanKind::Disk => disk_text(rt, alloc, workers, steps, book),
-        PlanKind::Hrevolve => hrevolve_text(rt, alloc, workers, steps, book),
+        PlanKind::Revolve => decide_revolve(alloc, steps, book),
+        PlanKind::Multistage => decide_multistage(alloc, steps, book),
+        PlanKind::Disk => decide_disk(rt, alloc, workers, steps, book),
+        PlanKind::Hrevolve => decide_hrevolve(rt, alloc, workers, steps, book),
     }
 }

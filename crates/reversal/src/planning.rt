@@ -1,4 +1,4 @@
-// Revolve's list for a book: a run by it, or its text with its certificate.
+// A plan's text with its certificate. Revolve's list for a book: a run by it, or its text.
 ghost use Rattle.std.specs.Prelude.{◌≡◌, ◌≢◌, ◌⊎◌, ◌↔◌, ℕ, ◌+◌, ◌≤◌, ◌++◌, List, [], ◌∷◌, map, take, drop, true, false, Option, IsTrue, IfOk, IfErr, OnOk};
 ghost use Rattle.std.specs.List.{AllByRecursion};
 ghost use Rattle.std.specs.Vec.{vec_len, vec_capacity};
@@ -61,19 +61,19 @@ pub fn decide_made(
 }
 
 /// The decision on a plan of Revolve by its book: the texts of its list and certificate.
-pub fn revolve_text(alloc: Global, steps: u32, book: &[u8]) -> Result<Job, Outcome>
+pub fn decide_revolve(alloc: Global, steps: u32, book: &[u8]) -> Result<Job, Outcome>
     requires steps { steps ≤ MOST_STEPS }
     ensures { (counts : List ℕ) → IsDecided (DecidesPlanRevolve steps book.now) counts result }
 {
     let book = book_in(alloc, book)?;
     let revolve = revolve_for(alloc, steps, &book)?;
     let certificate = certify_revolve(steps, &book);
-    let job = plan_text(alloc, Actions::Streamed(revolve), book, Some(certificate))?;
+    let job = plan_job(alloc, Actions::Streamed(revolve), book, Some(certificate))?;
     Ok(job)
 }
 
 /// The text of some actions over the levels of a book in pieces, and the text of their certificate, if any.
-pub fn plan_text(
+pub fn plan_job(
     alloc: Global,
     actions: Actions,
     book: Book,

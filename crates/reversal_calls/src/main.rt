@@ -46,9 +46,9 @@ fn run_files<T: Threads + Sync>(threads: &T, rt: &HostRuntime) -> io::Result<()>
     Ok(())
 }
 
-/// The outcome of a line's case.
+/// How a line's case ended.
 #[derive(Clone, Copy, PartialEq, Eq)]
-enum Outcome {
+enum Verdict {
     /// Another outcome than expected.
     Failed,
     /// The expected outcome. The case doesn't run over files.
@@ -60,15 +60,15 @@ enum Outcome {
 // Runs the cases of a file, and prints how many passed.
 fn run_file<T: Threads + Sync>(threads: &T, rt: &HostRuntime, name: &str) -> io::Result<()> {
     let text = fs::read_to_string(rt, name)?;
-    let mut outcomes = Vec::new(rt.alloc());
+    let mut verdicts = Vec::new(rt.alloc());
     for (place, line) in text.as_str().lines().enumerate() {
         let number = (place as u64).saturating_add(1);
-        outcomes.push(run_line(threads, rt, name, number, line)?)?;
+        verdicts.push(run_line(threads, rt, name, number, line)?)?;
     }
-    let count = |outcome| outcomes.iter().filter(|it| **it == outcome).count();
-    let twice = count(Outcome::PassedTwice);
-    let passed = count(Outcome::Passed).saturating_add(twice);
-    let failed = count(Outcome::Failed);
+    let count = |verdict| verdicts.iter().filter(|it| **it == verdict).count();
+    let twice = count(Verdict::PassedTwice);
+    let passed = count(Verdict::Passed).saturating_add(twice);
+    let failed = count(Verdict::Failed);
     println!(rt; "{name} {passed} passed, {failed} failed, {twice} over files too")
 }
 
@@ -79,24 +79,24 @@ fn run_line<T: Threads + Sync>(
     name: &str,
     number: u64,
     line: &str,
-) -> io::Result<Outcome> {
+) -> io::Result<Verdict> {
     let alloc = rt.alloc();
     let Ok(value) = Value::from_str(alloc, line) else {
         println!(rt; "{name}:{number} is no JSON text")?;
-        return Ok(Outcome::Failed);
+        return Ok(Verdict::Failed);
     };
     let Some(wanted) = value.get("comes").and_then(Value::as_object) else {
         println!(rt; "{name}:{number} does not say what has to come")?;
-        return Ok(Outcome::Failed);
+        return Ok(Verdict::Failed);
     };
     let Ok(case) = case_of(alloc, &value) else {
         println!(rt; "{name}:{number} is no case")?;
-        return Ok(Outcome::Failed);
+        return Ok(Verdict::Failed);
     };
     let mut called = called::<T, Brand>(threads, case, Blank::new(1));
-    let came = outcome_of(alloc, &seen_of(alloc, &called)?, wanted)?;
-    if !all_came(rt, name, number, wanted, &came, UNSEEN)? {
-        return Ok(Outcome::Failed);
+    let outcome = outcome_of(alloc, &seen_of(alloc, &called)?, wanted)?;
+    if !all_came(rt, name, number, wanted, &outcome, UNSEEN)? {
+        return Ok(Verdict::Failed);
     }
     run_again(
         threads,
@@ -118,26 +118,26 @@ fn run_again<T: Threads + Sync>(
     value: &Value,
     wanted: &Map<String, Value>,
     keepers: &mut [CaseKeeper],
-) -> io::Result<Outcome> {
+) -> io::Result<Verdict> {
     let alloc = rt.alloc();
     let Ok(case) = files_case_of(alloc, value) else {
         println!(rt; "{name}:{number} is no case over files")?;
-        return Ok(Outcome::Failed);
+        return Ok(Verdict::Failed);
     };
     let Some(case) = case else {
-        return Ok(Outcome::Passed);
+        return Ok(Verdict::Passed);
     };
     let mut ran = run_over_files::<T, Brand>(threads, case, Blank::new(1))?;
-    let came = outcome_of(alloc, &seen_of_ran(alloc, &ran)?, wanted)?;
-    if !all_came(rt, name, number, wanted, &came, UNSEEN)? {
+    let outcome = outcome_of(alloc, &seen_of_ran(alloc, &ran)?, wanted)?;
+    if !all_came(rt, name, number, wanted, &outcome, UNSEEN)? {
         println!(rt; "{name}:{number} came otherwise over files")?;
-        return Ok(Outcome::Failed);
+        return Ok(Verdict::Failed);
     }
     if !hold_the_same(alloc, keepers, &mut ran.keepers) {
         println!(rt; "{name}:{number} left other images in files")?;
-        return Ok(Outcome::Failed);
+        return Ok(Verdict::Failed);
     }
-    Ok(Outcome::PassedTwice)
+    Ok(Verdict::PassedTwice)
 }
 
 /// A call that ended, with what it was given.

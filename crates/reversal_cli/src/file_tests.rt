@@ -31,7 +31,7 @@ Reverse(1, 0, True)
 EndReverse()
 ";
 
-// The numbers and the places of the states of the program, from the last to the first.
+// The numbers and pcs of the program's states, from the last to the first.
 const LINES: [&[u8]; 5] = [
     b"4 00010010 ",
     b"3 0001000c ",

@@ -52,7 +52,8 @@ fn the_last_of_the_most_states_is_found(rt: HostRuntime) -> Result<(), Fail> {
 }
 
 // The slots of two levels, the words of a plan, its steps, and the lines of its certificate. A certificate of tables
-// has a line for each number of free slots of a counted level. One line more is for the kind, and one for the end.
+// has a line for each number of free slots of a counted level, and one each for the kind and the end. One of disk
+// tables has two more, for the disk.
 const PLANS: &[(&str, &str, &str, usize, usize)] = &[
     (
         "64",

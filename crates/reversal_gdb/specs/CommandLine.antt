@@ -31,8 +31,8 @@ command =
 
 -- ---- options
 
--- A stack has 16 pages if no option says more, at most 1,024. A run has at most 2 ^ 32 - 2 steps. From 2 to 65,536 states
--- are kept, 256 if no option says how many.
+-- A stack has 1 to 1,024 pages, 16 if no option says how many. A run has at most 2 ^ 32 - 2 steps, or as many as an
+-- option says. From 2 to 65,536 states are kept, 256 if no option says how many.
 pub record AreOptions (rows : List Row) (o : Options) : Type 0 where
   pub raw : IsFlagOf (one_of (codes "raw") rows) o.raw
   pub stack : IsNumberOf (first_of (codes "stack") rows) 16 1 1024 o.stack

@@ -1,4 +1,4 @@
-// A console.
+// A console: a place in a marked run, and how an order is answered there.
 ghost use Rattle.std.specs.Prelude.{◌≡◌, ◌≢◌, ◌<◌, ◌≤◌, ◌↔◌, ℕ, List, true, false, length, max, Option, Err, IfOk, OnErr, IsErrOf};
 ghost use Rattle.plan_types.specs.declared.limits.TheConstants.{MOST_STEPS};
 ghost use Rattle.level_book.specs.Prelude.{slots_of, total_room};

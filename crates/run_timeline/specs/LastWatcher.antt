@@ -1,4 +1,4 @@
--- No public clause cites this file. How states are observed.
+-- No public clause cites this file. What the watcher for the last hit notes of a state and the step from it.
 use Rattle.std.specs.Prelude.{◌≡◌, ℕ, ◌+◌, List}
 use Rattle.std.specs.Option.{option_or}
 use Rattle.rv_machine.specs.MachineState.{MachineState}

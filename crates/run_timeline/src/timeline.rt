@@ -28,9 +28,9 @@ pub const MARK_REST_BYTES: u64 = 512;
 const MOST_MARKS: u64 = 0x10_0000;
 
 /// A run of the machine, and a place in it, which is the number of a state. It keeps some states of the run at equal
-/// distances. As the run gets longer, every second one is dropped, and the distance doubles. Going back takes at most
-/// as many steps as that distance. Steps back one by one are undone, without steps of the machine. Only `begin` takes
-/// memory.
+/// distances. As the run gets longer, every second one is dropped, and the distance doubles. Going to a place reached
+/// before takes fewer steps than that distance; a search back also takes those that it looks at. Steps back one by one
+/// are undone; the first one notes up to 1,024 steps for that. Only `begin` and `outputs_from` take memory.
 #[derive(Drop)]
 pub struct Timeline {
     walk: Walk,

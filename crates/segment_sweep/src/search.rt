@@ -46,7 +46,7 @@ fn last_place<K: Sought>(
     Ok(last)
 }
 
-// The search for a given query.
+// The search that answers a given query.
 fn search<K: Sought + Sync, R: Threads + Sync, G: Gate + Sync>(
     rt: &R,
     alloc: Global,

@@ -2,8 +2,9 @@
 
 use rv_machine::State;
 
-/// A weighted sum, modulo 2 ^ 32, of all memory bytes, the registers, `item`, `offset` and `written`. A byte's weight
-/// is its address, and a register's is its number. The weights of `item`, `offset` and `written` are 32 to 34.
+/// A weighted sum, modulo 2 ^ 32, of all memory bytes, the registers, `item`, `offset` and `written`. A weight is a
+/// number times 2,654,435,761, with its lowest bit set. A byte's number is its address, a register's its own, and those
+/// of `item`, `offset` and `written` are 32 to 34.
 pub fn sum_of(state: &State) -> u32 {
     let mut sum = 0u32;
     for (place, word) in state.x.iter().enumerate() {

@@ -1,4 +1,4 @@
 use Rattle.library_tests.proofs.undo_tests.units_are_undone.Given as goal
 
-abbrev pub ghosts-go_there_and_back : goal.ghosts-go_there_and_back
-ghosts-go_there_and_back g a = record { name = a.blank.name; parts = a.blank.parts }
+abbrev pub ghosts-check_sizes : goal.ghosts-check_sizes
+ghosts-check_sizes g a = record { name = a.blank.name; parts = a.blank.parts }

@@ -34,8 +34,8 @@ returns-in_err-periodic c counts =
     let P : Outcome → Type 0 = λ x. (x ≡ no_memory) ⊎ IsUnperiodic c.args.plan.now.steps c.args.plan.now.period c.in_ok-book.book x in
     periodic_by_plan c.args.plan.now.steps c.args.plan.now.period c.args.book.now e c.in_ok-book.book c.in_ok-book.ensures.found (subst P same c.in_err-periodic.ensures.refused))
 
-pub plan_text-requires : goal.plan_text-requires
-plan_text-requires c =
+pub plan_job-requires : goal.plan_job-requires
+plan_job-requires c =
     let b = c.in_ok-book.book in
     let S : List Action → Type 0 = λ l. AllByRecursion (HasSpelling (names_of b)) l in
     subst S (sym c.in_ok-periodic.ensures.list) (valid_spelled c.args.plan.now.steps (slots_of b) (names_of b) (periodic_list c.args.plan.now.steps c.args.plan.now.period b) c.requires.steps (as_many b) (periodic_valid c.args.plan.now.steps c.args.plan.now.period b c.requires.some c.in_ok-periodic.ensures.plan))

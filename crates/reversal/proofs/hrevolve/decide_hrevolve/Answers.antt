@@ -20,7 +20,7 @@ use Rattle.reversal.proofs.ActionSpelling.{valid_spelled}
 use Rattle.reversal.proofs.RevolvePlan.{as_many}
 use Rattle.reversal.proofs.DecisionLaws.{hrevolve_by_book, hrevolve_by_room, hrevolve_by_plan, hrevolve_accepted}
 use Rattle.reversal.proofs.Decisions.{by_error}
-use Rattle.reversal.proofs.hrevolve.hrevolve_text.Goals as goal
+use Rattle.reversal.proofs.hrevolve.decide_hrevolve.Goals as goal
 
 pub returns-in_err-book : goal.returns-in_err-book
 returns-in_err-book g c counts =
@@ -45,8 +45,8 @@ returns-in_err-list g c counts =
     let P : Outcome → Type 0 = λ x. (x ≡ no_memory) ⊎ IsUnnested c.args.steps c.in_ok-book.book x in
     hrevolve_by_plan c.args.steps c.args.book.now e c.in_ok-book.book c.in_ok-book.ensures.found c.in_default.ensures (subst P same c.in_err-list.ensures.refused))
 
-pub plan_text-requires : goal.plan_text-requires
-plan_text-requires g c =
+pub plan_job-requires : goal.plan_job-requires
+plan_job-requires g c =
     let b = c.in_ok-book.book in
     let S : List Action → Type 0 = λ l. AllByRecursion (HasSpelling (names_of b)) l in
     subst S (sym c.new.ensures) (valid_spelled c.args.steps (slots_of b) (names_of b) c.in_ok-list.list.items (omega (arith, c.requires.steps)) (as_many b) c.in_ok-list.ensures.nested.0)

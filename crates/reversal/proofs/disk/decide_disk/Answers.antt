@@ -15,10 +15,10 @@ use Rattle.reversal.specs.CommandPlan.{DecidesPlanDisk}
 use Rattle.reversal.proofs.ActionSpelling.{valid_spelled}
 use Rattle.reversal.proofs.RevolvePlan.{as_many}
 use Rattle.reversal.proofs.DecisionLaws.{disk_accepted}
-use Rattle.reversal.proofs.disk.disk_text.Goals as goal
+use Rattle.reversal.proofs.disk.decide_disk.Goals as goal
 
-pub plan_text-requires : goal.plan_text-requires
-plan_text-requires g c =
+pub plan_job-requires : goal.plan_job-requires
+plan_job-requires g c =
     let b = c.in_ok-book.book in
     let S : List Action → Type 0 = λ l. AllByRecursion (HasSpelling (names_of b)) l in
     subst S (sym c.new.ensures) (valid_spelled c.args.steps (slots_of b) (names_of b) c.in_ok-list.list.items (omega (arith, c.requires.steps)) (as_many b) c.in_ok-list.ensures.disk.nested.0)

@@ -17,7 +17,7 @@ use Rattle.cert_text.specs.declared.certificate.Certificate.TheVariants.{Revolve
 use Rattle.cert_text.specs.Canonical as certificate_text
 use Rattle.bound_cert.specs.Acceptance.{IsPlaces}
 use Rattle.reversal.proofs.Decisions.{by_error}
-use Rattle.reversal.proofs.multistage.multistage_text.Goals as goal
+use Rattle.reversal.proofs.multistage.decide_multistage.Goals as goal
 
 -- the threshold that a certificate is
 threshold_in : (Holds : ℕ → Type 0) (certificate : Certificate) → IsPlaces Holds certificate → (threshold : ℕ) × (certificate ≡ Places threshold) × Holds threshold
@@ -40,8 +40,8 @@ returns-in_err-plan c counts =
     let P : Outcome → Type 0 = λ x. IsUnstaged c.args.steps c.in_ok-book.book x in
     multistage_by_plan c.args.steps c.args.book.now e c.in_ok-book.book c.in_ok-book.ensures.found (subst P same c.in_err-plan.ensures.refused))
 
-pub plan_text-requires : goal.plan_text-requires
-plan_text-requires c =
+pub plan_job-requires : goal.plan_job-requires
+plan_job-requires c =
     let b = c.in_ok-book.book in
     let list = c.in_ok-plan.plan.actions in
     valid_spelled c.args.steps (slots_of b) (names_of b) list c.requires.steps (as_many b) (multistage_valid c.args.steps b list c.in_ok-plan.ensures.class)

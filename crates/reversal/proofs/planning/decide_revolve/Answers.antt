@@ -15,7 +15,7 @@ use Rattle.reversal.specs.JobModel.{IsRefusal}
 use Rattle.reversal.proofs.RevolvePlan.{plan_spelled, certificate_is}
 use Rattle.reversal.proofs.DecisionLaws.{IsUnplanned, plan_by_book, plan_by_plan, plan_accepted}
 use Rattle.reversal.proofs.Decisions.{by_error}
-use Rattle.reversal.proofs.planning.revolve_text.Goals as goal
+use Rattle.reversal.proofs.planning.decide_revolve.Goals as goal
 
 pub returns-in_err-book : goal.returns-in_err-book
 returns-in_err-book c counts =
@@ -31,8 +31,8 @@ returns-in_err-revolve c counts =
     let P : Outcome → Type 0 = λ x. IsUnplanned c.args.steps c.in_ok-book.book x in
     plan_by_plan c.args.steps c.args.book.now e c.in_ok-book.book c.in_ok-book.ensures.found (subst P same c.in_err-revolve.ensures.refused))
 
-pub plan_text-requires : goal.plan_text-requires
-plan_text-requires c =
+pub plan_job-requires : goal.plan_job-requires
+plan_job-requires c =
     let b = c.in_ok-book.book in
     let S : List Action → Type 0 = λ l. AllByRecursion (HasSpelling (names_of b)) l in
     subst S (sym c.in_ok-revolve.ensures.list) (plan_spelled c.args.steps b c.requires.steps c.in_ok-revolve.ensures.plan)
