@@ -13,7 +13,7 @@ Images = finmap.FinMap nat_cmp (List ℕ)
 abbrev pub Location : Type 0
 Location = Option (List ℕ × ℕ)
 
--- inputs by their names
+-- inputs by their names, or files by their paths
 abbrev pub Files : Type 0
 Files = finmap.FinMap (slice_cmp nat_cmp) (List ℕ)
 

@@ -90,13 +90,6 @@ impl Timeline {
         self.walk.state()
     }
 
-    /// Whether the run ends at its place: the state is stopped, or the run has its most steps.
-    pub fn is_end(&self) -> bool
-        ensures { result ≡ is_end_of self.now.run self.now.place }
-    {
-        self.walk.is_end()
-    }
-
     /// Does nothing. Its contract is a law: no state is stopped before the greatest place so far.
     pub fn are_places(&self)
         ensures places { IsPlace self.now.run self.now.reached }

@@ -112,7 +112,7 @@ impl Walk {
         self.journal.is_recorded();
     }
 
-    /// Whether the run ends at its place.
+    /// Whether the run ends at its place: the state is stopped, or the run has its most steps.
     pub(crate) fn is_end(&self) -> bool
         ensures { result ≡ is_end_of self.now.run self.now.place }
     {

@@ -84,19 +84,19 @@ stores : (b : Bool) (s t : MachineState) → t.written ≡ s.written → Counts 
 stores true s t e small = omega (arith, e)
 stores false s t e small = omega arith
 
-happens : (s : MachineState) (journal : List (List ℕ)) (e : Effect) → Counts s.written (applied s journal e).written (output_by s (Some e))
-happens s journal (Put rd value) = stays s.written
-happens s journal (Jump rd target) = jumps s rd target
-happens s journal (Branch taken target) = either taken s.written (jumped s 0 target) (gone_on s) [] (jumps s 0 target) (stays s.written)
-happens s journal (Load rd at width with_sign) = loads s rd width with_sign (number_at s.memory at (bytes_of width))
-happens s journal (Store at width value) = stores (is_some (number_at s.memory at (bytes_of width))) s (record s { pc = wrapped (s.pc + 4); memory = with_number s.memory at (bytes_of width) value }) refl
-happens s journal Nothing = stays s.written
-happens s journal Call = calls s journal
-happens s journal Break = stays s.written
+applies : (s : MachineState) (journal : List (List ℕ)) (e : Effect) → Counts s.written (applied s journal e).written (output_by s (Some e))
+applies s journal (Put rd value) = stays s.written
+applies s journal (Jump rd target) = jumps s rd target
+applies s journal (Branch taken target) = either taken s.written (jumped s 0 target) (gone_on s) [] (jumps s 0 target) (stays s.written)
+applies s journal (Load rd at width with_sign) = loads s rd width with_sign (number_at s.memory at (bytes_of width))
+applies s journal (Store at width value) = stores (is_some (number_at s.memory at (bytes_of width))) s (record s { pc = wrapped (s.pc + 4); memory = with_number s.memory at (bytes_of width) value }) refl
+applies s journal Nothing = stays s.written
+applies s journal Call = calls s journal
+applies s journal Break = stays s.written
 
 says : (s : MachineState) (journal : List (List ℕ)) (o : Option Inst) → Counts s.written (said s journal o).written (output_by s (option_and_then (λ inst. Some (effect_in s inst)) o))
 says s journal None = stays s.written
-says s journal (Some inst) = happens s journal (effect_in s inst)
+says s journal (Some inst) = applies s journal (effect_in s inst)
 
 executes : (s : MachineState) (journal : List (List ℕ)) (o : Option ℕ) →
     Counts s.written (executed s journal o).written (output_by s (option_and_then (λ w. option_and_then (λ inst. Some (effect_in s inst)) (decoded w)) o))

@@ -56,19 +56,19 @@ called_pages s journal =
     (cond_pages (argument s 7 == 64) s (sent s) _ (sent_pages s)
     (cond_pages (argument s 7 == 93 || argument s 7 == 94) s (exited s) (put s 10 no_such_call) refl refl))
 
-pub happened_pages : (s : MachineState) (journal : List (List ℕ)) (effect : Effect) → page_numbers (applied s journal effect).memory ≡ page_numbers s.memory
-happened_pages s journal (Put rd value) = refl
-happened_pages s journal (Jump rd target) = jumped_pages s rd target
-happened_pages s journal (Branch taken target) = cond_pages taken s (jumped s 0 target) (gone_on s) (jumped_pages s 0 target) refl
-happened_pages s journal (Load rd at width with_sign) = loaded_pages s rd width with_sign _
-happened_pages s journal (Store at width value) = stored_pages s at width value _ refl
-happened_pages s journal Nothing = refl
-happened_pages s journal Call = called_pages s journal
-happened_pages s journal Break = refl
+pub applied_pages : (s : MachineState) (journal : List (List ℕ)) (effect : Effect) → page_numbers (applied s journal effect).memory ≡ page_numbers s.memory
+applied_pages s journal (Put rd value) = refl
+applied_pages s journal (Jump rd target) = jumped_pages s rd target
+applied_pages s journal (Branch taken target) = cond_pages taken s (jumped s 0 target) (gone_on s) (jumped_pages s 0 target) refl
+applied_pages s journal (Load rd at width with_sign) = loaded_pages s rd width with_sign _
+applied_pages s journal (Store at width value) = stored_pages s at width value _ refl
+applied_pages s journal Nothing = refl
+applied_pages s journal Call = called_pages s journal
+applied_pages s journal Break = refl
 
 said_pages : (s : MachineState) (journal : List (List ℕ)) (o : Option Inst) → page_numbers (said s journal o).memory ≡ page_numbers s.memory
 said_pages s journal None = refl
-said_pages s journal (Some inst) = happened_pages s journal (effect_in s inst)
+said_pages s journal (Some inst) = applied_pages s journal (effect_in s inst)
 
 executed_pages : (s : MachineState) (journal : List (List ℕ)) (word : Option ℕ) → page_numbers (executed s journal word).memory ≡ page_numbers s.memory
 executed_pages s journal None = refl

@@ -248,19 +248,19 @@ calls s journal recorded h =
     (chosen (argument s 7 == 64) _ _ (sends s h)
     (chosen (argument s 7 == 93 || argument s 7 == 94) _ _ (exits s h) (puts s 10 no_such_call (omega arith) h)))
 
-happens : (s : MachineState) (journal : List (List ℕ)) (effect : Effect) → HasWords effect → IsRecorded journal → IsMachineState s → IsMachineState (applied s journal effect)
-happens s journal (Put rd value) small recorded h = puts s rd value small h
-happens s journal (Jump rd target) small recorded h = jumps s rd target small h
-happens s journal (Branch taken target) small recorded h = branches s taken target small h
-happens s journal (Load rd at width with_sign) small recorded h = loads s rd width with_sign _ (number_below s.memory h.memory at (bytes_of width)) h
-happens s journal (Store at width value) small recorded h = stores_by s at width value _ refl h
-happens s journal Nothing small recorded h = goes_on s h
-happens s journal Call small recorded h = calls s journal recorded h
-happens s journal Break small recorded h = traps s 3 refl h
+applies : (s : MachineState) (journal : List (List ℕ)) (effect : Effect) → HasWords effect → IsRecorded journal → IsMachineState s → IsMachineState (applied s journal effect)
+applies s journal (Put rd value) small recorded h = puts s rd value small h
+applies s journal (Jump rd target) small recorded h = jumps s rd target small h
+applies s journal (Branch taken target) small recorded h = branches s taken target small h
+applies s journal (Load rd at width with_sign) small recorded h = loads s rd width with_sign _ (number_below s.memory h.memory at (bytes_of width)) h
+applies s journal (Store at width value) small recorded h = stores_by s at width value _ refl h
+applies s journal Nothing small recorded h = goes_on s h
+applies s journal Call small recorded h = calls s journal recorded h
+applies s journal Break small recorded h = traps s 3 refl h
 
 says : (s : MachineState) (journal : List (List ℕ)) (o : Option Inst) → IfSome o HasRanges → IsRecorded journal → IsMachineState s → IsMachineState (said s journal o)
 says s journal None ranges recorded h = traps s 2 refl h
-says s journal (Some inst) ranges recorded h = happens s journal (effect_in s inst) (words (λ n. slice_index s.registers n) s.pc (λ n. word s.registers n h.words) inst ranges) recorded h
+says s journal (Some inst) ranges recorded h = applies s journal (effect_in s inst) (words (λ n. slice_index s.registers n) s.pc (λ n. word s.registers n h.words) inst ranges) recorded h
 
 executes : (s : MachineState) (journal : List (List ℕ)) (w : Option ℕ) → IfSome w (λ v. v < 2 ^ 32) → IsRecorded journal → IsMachineState s → IsMachineState (executed s journal w)
 executes s journal None small recorded h = traps s 1 refl h

@@ -173,22 +173,22 @@ calls s journal =
       | false ↦ no_read
     ]
 
-happens : (s : MachineState) (journal : List (List ℕ)) (effect : Effect) → IsStep s (applied s journal effect) (register_of effect) (written_by s journal (Some effect)) journal
-happens s journal (Put rd value) = puts s (put s rd value) rd value journal refl refl refl refl
-happens s journal (Jump rd target) = jumps s rd target journal
-happens s journal (Branch taken target) = either taken s (jumped s 0 target) (gone_on s) 0 [] journal (jumps s 0 target journal) (stays s (gone_on s) 0 0 journal refl refl refl refl)
-happens s journal (Load rd at width with_sign) = loads s rd width with_sign _ journal
-happens s journal (Store at width value) = stores _ s at (bytes_of width) value journal (four width) refl
-happens s journal Nothing = stays s (gone_on s) 0 0 journal refl refl refl refl
-happens s journal Call = calls s journal
-happens s journal Break = stays s (trapped s 3) 0 0 journal refl refl refl refl
+applies : (s : MachineState) (journal : List (List ℕ)) (effect : Effect) → IsStep s (applied s journal effect) (register_of effect) (written_by s journal (Some effect)) journal
+applies s journal (Put rd value) = puts s (put s rd value) rd value journal refl refl refl refl
+applies s journal (Jump rd target) = jumps s rd target journal
+applies s journal (Branch taken target) = either taken s (jumped s 0 target) (gone_on s) 0 [] journal (jumps s 0 target journal) (stays s (gone_on s) 0 0 journal refl refl refl refl)
+applies s journal (Load rd at width with_sign) = loads s rd width with_sign _ journal
+applies s journal (Store at width value) = stores _ s at (bytes_of width) value journal (four width) refl
+applies s journal Nothing = stays s (gone_on s) 0 0 journal refl refl refl refl
+applies s journal Call = calls s journal
+applies s journal Break = stays s (trapped s 3) 0 0 journal refl refl refl refl
 
 abbrev effect_of_inst : MachineState → Option Inst → Option Effect
 effect_of_inst s o = option_and_then (λ inst. Some (effect_in s inst)) o
 
 says : (s : MachineState) (journal : List (List ℕ)) (o : Option Inst) → IsStep s (said s journal o) (option_map_or register_of (effect_of_inst s o) 0) (written_by s journal (effect_of_inst s o)) journal
 says s journal None = stays s (trapped s 2) 0 0 journal refl refl refl refl
-says s journal (Some inst) = happens s journal (effect_in s inst)
+says s journal (Some inst) = applies s journal (effect_in s inst)
 
 abbrev effect_of_word : MachineState → Option ℕ → Option Effect
 effect_of_word s o = option_and_then (λ w. effect_of_inst s (decoded w)) o
