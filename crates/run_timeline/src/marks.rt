@@ -57,6 +57,18 @@ impl Marks {
         self.next().min(to as u64) as u32
     }
 
+    // How far to go from a place that the marks span towards another: to the next mark, if that comes first.
+    pub fn end_after(&self, place: u32, to: u32) -> u32
+        requires known { place < next_mark self.now }
+        requires before { place < to }
+        ensures further { place < result }
+        ensures at_most { result ≤ min to (next_mark self.now) }
+        ensures near { result ≤ place + self.now.distance }
+    {
+        let (_, mark) = self.last_to(place);
+        (mark as u64 + self.distance as u64).min(to as u64) as u32
+    }
+
     // The last mark up to a place, and its place.
     pub fn last_to(&self, place: u32) -> (&Mark, u32)
         ensures mark { (states : ℕ → MachineState) → AreMarks states self.now → IsMarkOf (states result.1) result.0.now }

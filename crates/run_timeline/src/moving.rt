@@ -73,6 +73,7 @@ impl Walk {
             MatchPart result (EndsForward self.old.run stops.now p self.new.place) (CameForward self.old.run stops.now p self.new.place) }
         ensures further { MatchPart result (λ _. ⊤) (self.old.place < self.new.place) }
         ensures within { (self.old.place ≤ self.new.place) × (self.new.place ≤ self.old.run.most) }
+        ensures few { (n : ℕ) × ((self.new.place ≡ self.old.place + n) × IsFew self.old n) }
         ensures stays { self.new ≡ record self.old { place = self.new.place; reached = max self.old.reached self.new.place } }
         ensures counted { steps.new + self.old.place ≡ steps.old + self.new.place }
     {

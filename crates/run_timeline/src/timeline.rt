@@ -144,6 +144,7 @@ impl Timeline {
         ensures ends { (p : ℕ) → p < self.old.place → CameForward self.old.run stops.now p self.old.place →
             MatchPart result (EndsForward self.old.run stops.now p self.new.place) (CameForward self.old.run stops.now p self.new.place) }
         ensures further { MatchPart result (λ _. ⊤) (self.old.place < self.new.place) }
+        ensures few { (n : ℕ) × ((self.new.place ≡ self.old.place + n) × IsFew self.old n) }
         ensures stays { self.new ≡ record self.old { place = self.new.place; reached = max self.old.reached self.new.place; trail = 0 } }
         ensures counted { steps.new + self.old.place ≡ steps.old + self.new.place }
     {

@@ -231,10 +231,11 @@ impl Walk {
         ensures before { (k : ℕ) → self.old.place ≤ k → k < self.new.place → GoesOn (is_hit stops.now) self.old.run.journal (state_of self.old.run k) }
         ensures ends { IsTrue result → Ends (is_hit stops.now) self.old.run.journal (state_of self.old.run self.new.place) }
         ensures further { IsFalse result → self.old.place < self.new.place }
+        ensures few { (n : ℕ) × ((self.new.place ≡ self.old.place + n) × IsFew self.old n) }
         ensures stays { self.new ≡ record self.old { place = self.new.place; reached = max self.old.reached self.new.place } }
         ensures counted { steps.new + self.old.place ≡ steps.old + self.new.place }
     {
-        let end = self.marks.end_towards(self.most);
+        let end = self.marks.end_after(self.place, self.most);
         let count = end - self.place;
         let taken = look_forward(&mut self.work, &self.journal, stops, count, steps);
         self.place += taken;
