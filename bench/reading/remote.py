@@ -48,6 +48,18 @@ class Remote:
             self.ask(text)
         return time.monotonic() - began
 
+    def interrupted(self, text, later):
+        """How many seconds on the clock Ctrl-C takes to stop the move that a packet asks for, sent so many seconds after it."""
+        self.process.stdin.write(packet(text))
+        self.process.stdin.flush()
+        time.sleep(later)
+        began = time.monotonic()
+        self.process.stdin.write(b"\x03")
+        self.process.stdin.flush()
+        reply = self.text()
+        assert reply.startswith(b"T02"), reply
+        return time.monotonic() - began
+
     def close(self):
         self.process.stdin.write(packet(b"k"))
         self.process.stdin.close()
