@@ -1,7 +1,8 @@
 // Tables of least costs over two levels, the slow one unlimited.
 ghost use Rattle.std.specs.Prelude.{◌≡◌, ◌≢◌, ◌↔◌, ℕ, ◌+◌, ◌-◌, ◌<◌, ◌≤◌, ◌^◌, true, All, length, map, IfOk, IfErr, OnOk, slice_index};
-ghost use Rattle.level_book.specs.Prelude.{number};
-ghost use Rattle.cost_tables.specs.Prelude.{entry, least_split, FastestTablesFit, tables_in, value_of, IsOther};
+ghost use Rattle.level_book.specs.Prelude.{number, IsGreatest};
+ghost use Rattle.cost_tables.specs.Prelude.{entry, least_split, FastestTablesFit, tables_in, value_of, AreFor, IsOther};
+ghost use Rattle.cost_tables.specs.TableRows.{fastest};
 ghost use Rattle.disk_gen.specs.DiskPlans.{HasDiskPlan, IsDiskFault};
 ghost use Rattle.disk_gen.specs.DiskRows.{AreDiskSized, AreGreatestDiskFor, AreAllNeverDisk, disk_tables_in, DiskRows};
 ghost use Rattle.disk_gen.specs.DiskShapes.{AreDiskShaped, AreDiskShort};
@@ -32,8 +33,8 @@ impl DiskTables {
 
     /// The greatest disk under-table, the same for every number of workers. There is none if the book hasn't two
     /// levels, or level 1 isn't unlimited.
-    pub fn build<R: Threads + Sync>(
-        rt: &R,
+    pub fn build(
+        rt: &(impl Threads + Sync),
         alloc: Global,
         steps: u32,
         book: &Book,
@@ -51,7 +52,8 @@ impl DiskTables {
         if book.level(1).slots != Slots::Unlimited {
             return Err(GenFault::NoPlan(3));
         }
-        Ok(filled(rt, alloc, steps, book, workers)?)
+        let fast = Tables::build_fastest(rt, alloc, steps, book, workers)?;
+        Ok(with_disk(alloc, fast, book)?)
     }
 
     /// Tables with every entry Never, to be filled entry by entry. The book may also be one without a greatest table,
@@ -243,21 +245,15 @@ fn never_costs(alloc: Global, count: u32) -> Result<Vec<Cost>, AllocError>
     Ok(costs)
 }
 
-// The tables for a book that has a plan.
-fn filled<R: Threads + Sync>(
-    rt: &R,
-    alloc: Global,
-    steps: u32,
-    book: &Book,
-    workers: u32,
-) -> Result<DiskTables, AllocError>
-    requires fits { FastestTablesFit steps book.now }
-    requires workers { (1 ≤ workers) × (workers ≤ 64) }
+// Adds the entries over both levels to the tables of level 0, for a book that has a plan.
+fn with_disk(alloc: Global, fast: Tables, book: &Book) -> Result<DiskTables, AllocError>
+    requires fits { FastestTablesFit fast.steps book.now }
+    requires sizes { AreFor fast.steps (fastest book.now) fast }
+    requires greatest { IsGreatest fast.steps (fastest book.now) (tables_in fast) }
     requires plan { HasDiskPlan book.now }
-    ensures { IfOk result (AreGreatestDiskFor steps book.now) }
+    ensures { IfOk result (AreGreatestDiskFor fast.steps book.now) }
 {
     book.is_within_limits();
-    let fast = Tables::build_fastest(rt, alloc, steps, book, workers)?;
     let column = fast_column(alloc, &fast)?;
     let forward = book.forward() as u64;
     let disk = book.level(1);

@@ -2,9 +2,9 @@
 ghost use Rattle.std.specs.Prelude.{◌≡◌, ◌≤◌, [], ◌∷◌, MatchOption, IfOk, IfErr, OnOk, List, ◌++◌};
 ghost use Rattle.plan_types.specs.declared.limits.TheConstants.{MOST_STEPS};
 ghost use Rattle.plan_types.specs.declared.action.Action.{Action};
-ghost use Rattle.disk_gen.specs.PeriodicList.{periodic_list};
 ghost use Rattle.disk_gen.specs.Plans.{HasPeriodicPlan, IsFault};
 ghost use Rattle.disk_gen.specs.Remainder.{owed_behind, IsOwing};
+ghost use Rattle.disk_gen.specs.PeriodicList.{periodic_list};
 
 use crate::phase::{Phase, next_behind};
 use crate::plans::planned_images;

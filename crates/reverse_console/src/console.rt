@@ -98,27 +98,13 @@ impl Console {
         self.place
     }
 
-    /// Does nothing. Its contract is a law. If the console represents a run, states from marks are the run's with their
-    /// numbers. The answers seen are the run's.
-    pub fn sees_its_run(&self)
-        ensures states { (first : MachineState) (told : ℕ → Option Images) → IsMachineState first → Stands first self.now told →
-            (i n : ℕ) (s : MachineState) → ComesFrom (source_of self.now told) i n s → s ≡ state_number first self.now.journal n }
-        ensures answers { (first : MachineState) (told : ℕ → Option Images) → IsMachineState first → Stands first self.now told →
-            (place : ℕ) (order : AnOrder) (answer : Option ℕ) → IsAnswerSeen (source_of self.now told) place order answer →
-            IsAnswer first self.now.journal self.now.plan.count place order answer }
-    {
-        self.marks.are_roomy();
-        self.marks.have_room();
-        self.journal.is_recorded();
-    }
-
     /// Answers an order: goes to its new place, if there is one, and gives the visitor the state there.
-    pub fn perform<K: Keeper, V: Visitor, L: Ledger>(
+    pub fn perform<K: Keeper, V: Visitor>(
         &mut self,
         order: &Order,
         keepers: &mut Vec<K>,
         visitor: &mut V,
-        steps: &mut Steps<L>,
+        steps: &mut Steps<impl Ledger>,
     ) -> Result<bool, RunFault>
         requires order { self.old.ended ≡ false → IsOrder self.old.plan.count order.now }
         requires room { self.old.ended ≡ false → HaveRoom (span self.old.plan) self.old.plan.slots (slot_counts K.Storage keepers.old.items) }
@@ -168,6 +154,20 @@ impl Console {
         );
         self.ended = outcome.is_err();
         outcome
+    }
+
+    /// Does nothing. Its contract is a law. If the console represents a run, states from marks are the run's with their
+    /// numbers. The answers seen are the run's.
+    pub fn sees_its_run(&self)
+        ensures states { (first : MachineState) (told : ℕ → Option Images) → IsMachineState first → Stands first self.now told →
+            (i n : ℕ) (s : MachineState) → ComesFrom (source_of self.now told) i n s → s ≡ state_number first self.now.journal n }
+        ensures answers { (first : MachineState) (told : ℕ → Option Images) → IsMachineState first → Stands first self.now told →
+            (place : ℕ) (order : AnOrder) (answer : Option ℕ) → IsAnswerSeen (source_of self.now told) place order answer →
+            IsAnswer first self.now.journal self.now.plan.count place order answer }
+    {
+        self.marks.are_roomy();
+        self.marks.have_room();
+        self.journal.is_recorded();
     }
 }
 

@@ -59,8 +59,7 @@ impl Mark {
         self.pc = state.pc;
         self.x = state.x;
         self.status = state.status;
-        self.item = state.item;
-        self.offset = state.offset;
+        (self.item, self.offset) = (state.item, state.offset);
         self.written = state.written;
         keep_pages(&mut self.indices, &mut self.bytes, &state.pages);
     }
@@ -73,8 +72,7 @@ impl Mark {
         state.pc = self.pc;
         state.x = self.x;
         state.status = self.status;
-        state.item = self.item;
-        state.offset = self.offset;
+        (state.item, state.offset) = (self.item, self.offset);
         state.written = self.written;
         give_pages(&self.indices, &self.bytes, &mut state.pages);
     }

@@ -1,4 +1,4 @@
-use Rattle.std.proofs.Common.{◌+◌, ◌-◌, ◌*◌, ◌∷◌, ◌++◌, refl, sym, ◌∙◌, ap, subst, arith}
+use Rattle.std.proofs.Common.{◌-◌, ◌*◌, ◌∷◌, ◌++◌, refl, sym, ◌∙◌, ap, subst, arith}
 use Rattle.plan_types.specs.declared.action.Dest.TheVariants.{Work}
 use Rattle.plan_types.specs.declared.action.Action.TheVariants.{Move}
 use Rattle.revolve_gen.specs.Part.{Coming}

@@ -9,50 +9,50 @@ use Rattle.disk_gen.specs.declared.disk_tables.DiskTables.TheInside.{Inside}
 use Rattle.disk_gen.specs.DiskInvariant.{IsHeldColumn, IsFreshColumn}
 use Rattle.disk_gen.proofs.DiskRowExtension.{filled_greatest}
 use Rattle.disk_gen.proofs.DiskNeverTables.{fastest_low}
-use Rattle.disk_gen.proofs.disk_tables.filled.Goals as goal
+use Rattle.disk_gen.proofs.disk_tables.with_disk.Goals as goal
 
 same_count : (costs : List Cost) (numbers : List ℕ) → map value_of costs ≡ map entry numbers → length costs ≡ length numbers
 same_count costs numbers same = sym (length-map costs value_of) ∙ ap length same ∙ length-map numbers entry
 
 pub fast_column-requires-clause-low : goal.fast_column-requires-clause-low
-fast_column-requires-clause-low g c = λ l v one le e.
-    let book = c.args.book.now in let fast = c.in_ok-fast.fast in let sizes = c.in_ok-fast.ensures.sizes in
+fast_column-requires-clause-low c = λ l v one le e.
+    let book = c.args.book.now in let fast = c.args.fast in let sizes = c.requires.sizes in
     let two = c.requires.plan.two in
     let known : 0 < length (fastest book).levels = omega (arith, length-take 1 book.levels) in
-    let same = sizes.rooms_are 0 known ∙ same_room book c.args.steps in
-    fastest_low c.args.steps book (tables_in fast) (omega arith) c.requires.fits.few c.is_within_limits.ensures c.in_ok-fast.ensures.greatest l (get_or fast.rooms 0 0) v one (omega (arith, sizes.steps_are)) (omega arith) e
+    let same = sizes.rooms_are 0 known ∙ same_room book c.args.fast.steps in
+    fastest_low c.args.fast.steps book (tables_in fast) (omega arith) c.requires.fits.few c.is_within_limits.ensures c.requires.greatest l (get_or fast.rooms 0 0) v one (omega arith) (omega arith) e
 
 pub held_column-requires-clause-few : goal.held_column-requires-clause-few
-held_column-requires-clause-few g c =
+held_column-requires-clause-few c =
     let few = c.requires.fits.few in
-    omega (arith, ap length c.deref.ensures.value, c.in_ok-column.ensures.count, c.in_ok-fast.ensures.sizes.steps_are)
+    omega (arith, ap length c.deref.ensures.value, c.in_ok-column.ensures.count)
 
 pub held_column-requires-clause-fast : goal.held_column-requires-clause-fast
-held_column-requires-clause-fast g c =
+held_column-requires-clause-fast c =
     let P : List ℕ → Type 0 = λ xs. All (λ n. n ≤ 2 ^ 61) xs in
     subst P (sym c.deref.ensures.value) c.in_ok-column.ensures.low
 
 pub fresh_column-requires-clause-few : goal.fresh_column-requires-clause-few
-fresh_column-requires-clause-few g c =
+fresh_column-requires-clause-few c =
     let few = c.requires.fits.few in
-    omega (arith, ap length c.deref-2.ensures.value, c.in_ok-column.ensures.count, c.in_ok-fast.ensures.sizes.steps_are)
+    omega (arith, ap length c.deref-2.ensures.value, c.in_ok-column.ensures.count)
 
 pub fresh_column-requires-clause-fast : goal.fresh_column-requires-clause-fast
-fresh_column-requires-clause-fast g c =
+fresh_column-requires-clause-fast c =
     let P : List ℕ → Type 0 = λ xs. All (λ n. n ≤ 2 ^ 61) xs in
     subst P (sym c.deref-2.ensures.value) c.in_ok-column.ensures.low
 
 pub fresh_column-requires-clause-held : goal.fresh_column-requires-clause-held
-fresh_column-requires-clause-held g c =
+fresh_column-requires-clause-held c =
     let P : List ℕ → Type 0 = λ xs. All (λ n. n ≤ 2 ^ 62) xs in
     subst P (sym c.deref-3.ensures.value) c.in_ok-held.ensures.column.low
 
 pub fresh_column-requires-clause-count : goal.fresh_column-requires-clause-count
-fresh_column-requires-clause-count g c = ap length c.deref-3.ensures.value ∙ c.in_ok-held.ensures.count ∙ ap length c.deref.ensures.value ∙ sym (ap length c.deref-2.ensures.value)
+fresh_column-requires-clause-count c = ap length c.deref-3.ensures.value ∙ c.in_ok-held.ensures.count ∙ ap length c.deref.ensures.value ∙ sym (ap length c.deref-2.ensures.value)
 
 pub invariant_of-result : goal.invariant_of-result
-invariant_of-result g c =
-    let book = c.args.book.now in let sizes = c.in_ok-fast.ensures.sizes in let two = c.requires.plan.two in
+invariant_of-result c =
+    let book = c.args.book.now in let sizes = c.requires.sizes in let two = c.requires.plan.two in
     let long = c.in_ok-column.ensures.count in
     let held = c.in_ok-held.ensures.count ∙ ap length c.deref.ensures.value ∙ long in
     let fresh = c.in_ok-fresh.ensures.count ∙ ap length c.deref-2.ensures.value ∙ long in
@@ -63,10 +63,10 @@ invariant_of-result g c =
     }
 
 pub returns : goal.returns
-returns g c =
+returns c =
     let book = c.args.book.now in let level = c.level-disk.result.now in
     let column = c.in_ok-column.column.items in let held = c.in_ok-held.held.items in let fresh = c.in_ok-fresh.fresh.items in
-    let made : Inside = record { fast = c.in_ok-fast.fast; disk_fresh = c.in_ok-disk_fresh.disk_fresh; disk_held = c.in_ok-disk_held.disk_held } in
+    let made : Inside = record { fast = c.args.fast; disk_fresh = c.in_ok-disk_fresh.disk_fresh; disk_held = c.in_ok-disk_held.disk_held } in
     let limits = c.is_within_limits.ensures in
     let f : book.forward < 2 ^ 32 = let le = limits.forward in omega arith in
     let b : book.reverse < 2 ^ 32 = let le = limits.reverse in omega arith in
@@ -84,8 +84,8 @@ returns g c =
     let FW : ℕ → Type 0 = λ n. IsFreshColumn book.forward n column held fresh in
     record {
       fits = c.requires.fits;
-      sizes = record { sized = c.in_ok-fast.ensures.sizes; plan = c.requires.plan };
-      greatest = filled_greatest c.args.steps book made column fresh held (let two = c.requires.plan.two in omega arith) c.in_ok-fast.ensures.sizes c.in_ok-fast.ensures.greatest c.requires.fits.few
+      sizes = record { sized = c.requires.sizes; plan = c.requires.plan };
+      greatest = filled_greatest c.args.fast.steps book made column fresh held (let two = c.requires.plan.two in omega arith) c.requires.sizes c.requires.greatest c.requires.fits.few
           f b (subst Low (sym write) w) (subst Low (sym read) r) c.in_ok-column.ensures.count c.in_ok-column.ensures.value
           (subst HR (sym read) (subst HF c.forward-forward.ensures (subst H c.deref.ensures.value c.in_ok-held.ensures.column)))
           (c.in_ok-held.ensures.count ∙ ap length c.deref.ensures.value)
